@@ -1,0 +1,35 @@
+use Rattle.ascii_range.proofs.Scans.{is-outside}
+use native.Mathlib.Omega.{arith}
+use Prim.Native.Nat.{ℕ, _≤_, _<_, _-_, _+_, _*_}
+use mathlib.Core.Path.{_≡_, refl, ap, sym, _∙_}
+use lib.ListN.{length, getD, take, drop}
+use borrow.Author.Needs.{needs}
+use Rattle.ascii_range.proofs.outside.Statement.{statement}
+use Rattle.ascii_range.proofs.outside.Tie as tie
+use Rattle.ascii_range.proofs.outside.Reads as reads
+use Rattle.ascii_range.proofs.outside.Lts as lts
+use Rattle.ascii_range.proofs.holds.Reads as holds-reads
+
+-- src/lib.rt:224:7
+holds-requires : tie.Need-holds-requires
+holds-requires c κs = search (needs, is-outside)
+
+-- src/lib.rt:224:24
+holds-requires-2 : tie.Need-holds-requires-2
+holds-requires-2 c κs = search (needs, is-outside)
+
+-- src/lib.rt:224:41
+holds-requires-3 : tie.Need-holds-requires-3
+holds-requires-3 c κs = search (needs, is-outside)
+
+-- src/lib.rt:224:58
+holds-requires-4 : tie.Need-holds-requires-4
+holds-requires-4 c κs = search (needs, is-outside)
+
+-- src/lib.rt:221:1
+returns : tie.Need-returns
+returns c = search (needs, is-outside)
+
+pub outside-spec : {M : Type 1} → statement M
+outside-spec =
+    tie.close (tie.spec holds-requires holds-requires-2 holds-requires-3 holds-requires-4 returns)

@@ -1,0 +1,89 @@
+-- Laws of `before`, `some` and `every`, over any test. Assumes nothing.
+use Prim.Native.Nat.{ℕ, zero, suc, _+_, _≤_, _<_, zero-le}
+use native.Mathlib.Nat.{add-zero}
+use native.Mathlib.Numerals.{add-one}
+use native.Mathlib.Omega.{arith}
+use mathlib.Core.Path.{_≡_, refl, ap, sym, _∙_}
+use mathlib.Core.Bool.{Bool, true, false, not}
+use mathlib.Core.List.{List, [], _∷_}
+use lib.Dec.{eqb}
+use lib.ListN.{length, getD, drop, drop-of-length-le}
+use lib.Seq.{drop-cons, drop-nil, drop-drop}
+use borrow.Author.Needs.{needs}
+use borrow.Author.Tests.{eq-eqb, ne-eqb}
+use Rattle.refusal.specs.Lists.{pick, before}
+
+-- A search for the first place at which a test holds. Its loop's invariant: what is found from here is what is found in all.
+
+module _ (p : ℕ → Bool) where
+  pub before-≤ : (xs : List ℕ) → before p xs ≤ length xs
+  unfolding before
+  before-≤ [] = zero-le
+  before-≤ (x ∷ xs) = cases (p x) (before-≤ xs) where
+    cases : (t : Bool) → before p xs ≤ length xs → pick t zero (suc (before p xs)) ≤ suc (length xs)
+    cases true h = zero-le
+    cases false h = omega arith
+
+  pub before-true : {x : ℕ} (xs : List ℕ) → p x ≡ true → before p (x ∷ xs) ≡ 0
+  unfolding before
+  before-true xs e = rw e
+
+  pub before-false : {x : ℕ} (xs : List ℕ) → p x ≡ false → before p (x ∷ xs) ≡ suc (before p xs)
+  unfolding before
+  before-false xs e = rw e
+
+  -- the test holds here
+  pub before-stop : (xs : List ℕ) (i : ℕ) → i < length xs → p (getD xs i 0) ≡ true → before p (drop i xs) ≡ 0
+  before-stop xs i h e = rw (drop-cons xs i 0) (before-true _ e)
+
+  pub halts : (xs : List ℕ) (i : ℕ) {n : ℕ} → i < length xs → p (getD xs i 0) ≡ true → i + before p (drop i xs) ≡ n → i ≡ n
+  halts xs i h e a = omega (arith, before-stop xs i h e)
+
+  -- the test does not hold here: go on behind it
+  pub before-pass : (xs : List ℕ) (i : ℕ) → i < length xs → p (getD xs i 0) ≡ false → before p (drop i xs) ≡ 1 + before p (drop (i + 1) xs)
+  before-pass xs i h e = rw (add-one, drop-cons xs i 0) (omega (arith, before-false (drop (suc i) xs) e))
+
+  pub passes : (xs : List ℕ) (i : ℕ) {n : ℕ} → i < length xs → p (getD xs i 0) ≡ false → i + before p (drop i xs) ≡ n → i + 1 + before p (drop (i + 1) xs) ≡ n
+  passes xs i h e a = omega (arith, before-pass xs i h e)
+
+  -- the same, where a function made the test
+  pub halts-by : (xs : List ℕ) (i : ℕ) {n : ℕ} {t : Bool} → i < length xs → t ≡ p (getD xs i 0) → t ≡ true → i + before p (drop i xs) ≡ n → i ≡ n
+  halts-by xs i h e f a = halts xs i h (sym e ∙ f) a
+
+  pub passes-by : (xs : List ℕ) (i : ℕ) {n : ℕ} {t : Bool} → i < length xs → t ≡ p (getD xs i 0) → t ≡ false → i + before p (drop i xs) ≡ n → i + 1 + before p (drop (i + 1) xs) ≡ n
+  passes-by xs i h e f a = passes xs i h (sym e ∙ f) a
+
+  -- where a search ends, the next one begins at once
+  pub before-again : (xs : List ℕ) → before p (drop (before p xs) xs) ≡ 0
+  before-again [] = rw drop-nil (omega (arith, before-≤ []))
+  before-again (x ∷ xs) = cases (p x) refl (before-again xs) where
+    cases : (t : Bool) → p x ≡ t → before p (drop (before p xs) xs) ≡ 0 → before p (drop (before p (x ∷ xs)) (x ∷ xs)) ≡ 0
+    cases true e h = rw (before-true {x = x} xs e) (before-true {x = x} xs e)
+    cases false e h = rw (before-false {x = x} xs e) h
+
+  pub before-next : (xs : List ℕ) (at : ℕ) {n : ℕ} → n ≡ at + before p (drop at xs) → before p (drop n xs) ≡ 0
+  before-next xs at h = rw (h, ← drop-drop) (before-again (drop at xs))
+
+  -- nothing is left
+  pub before-end : (xs : List ℕ) (i : ℕ) → length xs ≤ i → before p (drop i xs) ≡ 0
+  unfolding before
+  before-end xs i h = rw (drop-of-length-le xs h)
+
+  pub ends : (xs : List ℕ) (i : ℕ) {n : ℕ} → length xs ≤ i → i + before p (drop i xs) ≡ n → i ≡ n
+  ends xs i h a = omega (arith, before-end xs i h)
+
+-- two tests that agree find the same place
+pub before-same : (p q : ℕ → Bool) → ((x : ℕ) → p x ≡ q x) → (xs : List ℕ) → before p xs ≡ before q xs
+unfolding before
+before-same p q h [] = refl
+before-same p q h (x ∷ xs) = rw (h x, before-same p q h xs)
+
+-- a negated test of two numbers
+pub not-eqb : (a b : ℕ) → a ≡ b → not (eqb a b) ≡ false
+not-eqb a b e = ap not (eq-eqb a b e)
+
+pub not-neqb : (a b : ℕ) → (a ≡ b → ⊥) → not (eqb a b) ≡ true
+not-neqb a b n = ap not (ne-eqb a b n)
+
+-- what a loop of such a search is left with
+pub ruleset searching = (needs, halts, passes, ends, halts-by, passes-by, eq-eqb, ne-eqb, not-eqb, not-neqb)

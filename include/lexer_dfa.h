@@ -1,0 +1,108 @@
+/*
+ * The proved lexer DFA table core for C: ASCII ranges and runs.
+ *
+ * The functions stand in target/staticlib/liblexer_dfa_c.a, which `rt staticlib lexer_dfa_c`
+ * writes (x86-64).
+ *
+ * Every call takes all words, bytes and lengths and ends with its answer or with one numbered
+ * refusal; there is nothing to check first. A list is passed as pointer and length. The pointer
+ * must be the address of that many numbers, or any address that is not null and is aligned where
+ * the length is 0. Nothing is kept after the call and nothing is written.
+ *
+ * An answer's `number` is 0 where the call was accepted. Else it is the refusal's number, `place`
+ * tells where, and every other field is 0 or false.
+ */
+#ifndef LEXER_DFA_H
+#define LEXER_DFA_H
+
+#include <stdbool.h>
+#include <stddef.h>
+#include <stdint.h>
+
+#ifdef __cplusplus
+extern "C" {
+#endif
+
+/* Refusals. */
+enum {
+    LEXER_DFA_ACCEPTED = 0,
+    LEXER_DFA_SHORT = 1, /* the words end inside a run; place: the number of words */
+    LEXER_DFA_FIELD = 3  /* a value that its field forbids; place: told by each call */
+};
+
+/* What a byte is. */
+enum {
+    LEXER_DFA_BYTE_DIGIT = 0,
+    LEXER_DFA_BYTE_HEX_LETTER = 1, /* A to F, a to f */
+    LEXER_DFA_BYTE_OTHER_LETTER = 2,
+    LEXER_DFA_BYTE_WHITESPACE = 3, /* 9, 10, 12, 13, 32; not 11 */
+    LEXER_DFA_BYTE_UNDERSCORE = 4,
+    LEXER_DFA_BYTE_QUOTE = 5, /* the single quote, 39 */
+    LEXER_DFA_BYTE_DOLLAR = 6,
+    LEXER_DFA_BYTE_OTHER = 7 /* all bytes of 128 and above among them */
+};
+
+uint32_t lexer_dfa_class_of_byte(uint8_t byte);
+
+/* What the bytes of a run of ranges make up. */
+enum {
+    LEXER_DFA_WHITESPACE = 0, /* whitespace only */
+    LEXER_DFA_NUMBER = 1,     /* a digit, and only hex digits, '_' or the single quote */
+    LEXER_DFA_IDENTIFIER = 2, /* no number: a letter, and only letters, digits, '_' or '$' */
+    LEXER_DFA_OTHER = 3
+};
+
+typedef struct {
+    uint32_t number;
+    size_t place;
+    uint32_t range_class;
+} ClassAnswer;
+
+/* The class of the ranges that the three words of a run of kind 5 hold. Any other words are FIELD
+   at 0. */
+ClassAnswer lexer_dfa_class(const uint32_t *words, size_t len);
+
+/*
+ * A run is how a state loops on ASCII. Its words: the low byte of the first is the kind.
+ *   0  no run                 1  on every symbol
+ *   2, 3, 4  on all but one, two, three exits, which stand in the next bytes
+ *   5  on one to four ranges: the second byte is their number, and two more words hold low and
+ *      high bytes, least byte first
+ * Unused bytes are 0. `length` is the number of words, 1 or 3; with 1, second and third are 0.
+ */
+typedef struct {
+    uint32_t number;
+    size_t place;
+    size_t length;
+    uint32_t first;
+    uint32_t second;
+    uint32_t third;
+} RunAnswer;
+
+/* The run of a state whose row of 128 targets this is. A row of another length is FIELD at 0. */
+RunAnswer lexer_dfa_classify(const uint16_t *row, size_t len, uint16_t state);
+
+/* The run that stands at word `at`. SHORT at `len` where the words end inside it, or before it;
+   FIELD at `at` where they are no run. Kind 5 needs its three words before FIELD is judged. */
+RunAnswer lexer_dfa_read_run(const uint32_t *words, size_t len, size_t at);
+
+/* `ran` is false where there is no run (kind 0): no refusal, and not the same as a run of 0 bytes.
+   The run is the first `bytes` bytes of the input; `found_exit` tells that it stops at a byte and
+   not because the input ends. */
+typedef struct {
+    uint32_t number;
+    size_t place;
+    bool ran;
+    size_t bytes;
+    bool found_exit;
+} ScanAnswer;
+
+/* Scans with the run whose words these are. Words that are not exactly one run's are FIELD at 0. */
+ScanAnswer lexer_dfa_scan(const uint32_t *words, size_t len, const uint8_t *input,
+                          size_t input_len);
+
+#ifdef __cplusplus
+}
+#endif
+
+#endif

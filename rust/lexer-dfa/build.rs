@@ -1,0 +1,30 @@
+//! Links the static library that `rt staticlib lexer_dfa_c` writes at the top of the repository.
+//! LEXER_DFA_LIB names another folder that has it.
+
+use std::env;
+use std::path::{Path, PathBuf};
+
+const MADE_HERE: &str = "../../target/staticlib";
+const ARCHIVE: &str = "liblexer_dfa_c.a";
+
+fn main() {
+    println!("cargo::rerun-if-env-changed=LEXER_DFA_LIB");
+    let here = env::var("CARGO_MANIFEST_DIR").expect("cargo sets CARGO_MANIFEST_DIR");
+    let folder = match env::var_os("LEXER_DFA_LIB") {
+        Some(named) => PathBuf::from(named),
+        None => Path::new(&here).join(MADE_HERE),
+    };
+    let folder = folder.canonicalize().unwrap_or(folder);
+    let archive = folder.join(ARCHIVE);
+    println!("cargo::rerun-if-changed={}", archive.display());
+    if !archive.is_file() {
+        println!(
+            "cargo::error={} is not there: run `rt staticlib lexer_dfa_c` at the top of the \
+             repository, or let LEXER_DFA_LIB name the folder that has {ARCHIVE}",
+            archive.display()
+        );
+        return;
+    }
+    println!("cargo::rustc-link-search=native={}", folder.display());
+    println!("cargo::rustc-link-lib=static=lexer_dfa_c");
+}

@@ -1,0 +1,69 @@
+//! The C face, as `include/lexer_dfa.h` has it, and the same calls over slices. All unsafe code of
+//! the crate is here.
+//!
+//! The proved functions take any words, bytes and lengths. All they ask of a caller is what a
+//! slice gives: a pointer and a length that describe numbers which live, unchanged, for the call.
+
+#[repr(C)]
+pub struct ClassAnswer {
+    pub number: u32,
+    pub place: usize,
+    pub class: u32,
+}
+
+#[repr(C)]
+pub struct RunAnswer {
+    pub number: u32,
+    pub place: usize,
+    pub length: usize,
+    pub first: u32,
+    pub second: u32,
+    pub third: u32,
+}
+
+#[repr(C)]
+pub struct ScanAnswer {
+    pub number: u32,
+    pub place: usize,
+    pub ran: bool,
+    pub bytes: usize,
+    pub found_exit: bool,
+}
+
+unsafe extern "C" {
+    safe fn lexer_dfa_class_of_byte(byte: u8) -> u32;
+    fn lexer_dfa_class(words: *const u32, len: usize) -> ClassAnswer;
+    fn lexer_dfa_classify(row: *const u16, len: usize, state: u16) -> RunAnswer;
+    fn lexer_dfa_read_run(words: *const u32, len: usize, at: usize) -> RunAnswer;
+    fn lexer_dfa_scan(
+        words: *const u32,
+        len: usize,
+        input: *const u8,
+        input_len: usize,
+    ) -> ScanAnswer;
+}
+
+pub fn class_of_byte(byte: u8) -> u32 {
+    lexer_dfa_class_of_byte(byte)
+}
+
+pub fn class(words: &[u32]) -> ClassAnswer {
+    // SAFETY: pointer and length are those of a live slice, only read; all values are taken.
+    unsafe { lexer_dfa_class(words.as_ptr(), words.len()) }
+}
+
+pub fn classify(row: &[u16], state: u16) -> RunAnswer {
+    // SAFETY: pointer and length are those of a live slice, only read; all values are taken.
+    unsafe { lexer_dfa_classify(row.as_ptr(), row.len(), state) }
+}
+
+pub fn read_run(words: &[u32], at: usize) -> RunAnswer {
+    // SAFETY: pointer and length are those of a live slice, only read; all values are taken, and
+    // so is every place, inside the slice or past it.
+    unsafe { lexer_dfa_read_run(words.as_ptr(), words.len(), at) }
+}
+
+pub fn scan(words: &[u32], input: &[u8]) -> ScanAnswer {
+    // SAFETY: both pointers and lengths are those of live slices, only read; all values are taken.
+    unsafe { lexer_dfa_scan(words.as_ptr(), words.len(), input.as_ptr(), input.len()) }
+}

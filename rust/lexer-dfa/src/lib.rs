@@ -1,0 +1,28 @@
+//! The lexer DFA table core of a ply-book reader, proved in Rattle, as a Rust crate.
+//!
+//! Every call takes all words, bytes and lengths and ends with its answer or one numbered
+//! [`Refusal`]; there is nothing to check first.
+//!
+//! ```
+//! use lexer_dfa::AsciiRun;
+//!
+//! // State 7 loops on the digits and leaves on everything else.
+//! let mut row = [0; 128];
+//! row[48..58].fill(7);
+//! let run = AsciiRun::classify(&row, 7)?;
+//!
+//! assert_eq!(run.scan(b"10 ply"), Some(&b"10"[..]));
+//! # Ok::<(), lexer_dfa::Refusal>(())
+//! ```
+
+#![deny(missing_docs, unsafe_code)]
+
+mod class;
+#[allow(unsafe_code)]
+mod ffi;
+mod refusal;
+mod run;
+
+pub use class::{AsciiRangeClass, ByteClass, class, class_of_byte};
+pub use refusal::Refusal;
+pub use run::{AsciiRun, AsciiRunScan, scan};

@@ -1,0 +1,96 @@
+//! Plain functions over the original for the tests to call. They stand inside its module, so they
+//! reach what is private there.
+
+use super::*;
+use crate::atn::ascii_range::AsciiRangeClass;
+
+const _: () = assert!(DEAD_STATE == 65535 && ESCAPE_STATE == 65534);
+
+/// The run of a row in a state.
+pub fn classify(row: &[u16; 128], state: u16) -> AsciiRun {
+    AsciiRun::classify(row, state)
+}
+
+/// The words of a run.
+pub fn run_words(run: AsciiRun) -> Vec<u32> {
+    let mut words = Vec::with_capacity(run.serialized_words());
+    run.write_serialized(&mut words);
+    words
+}
+
+/// The run at the front of the words and the number of its words.
+pub fn read_run(words: &[u32]) -> Option<(AsciiRun, usize)> {
+    let mut reader = SerializedReader {
+        data: words,
+        position: 0,
+    };
+    let run = AsciiRun::read_serialized(&mut reader)?;
+    Some((run, reader.position))
+}
+
+/// How far a run goes in the input; nothing where there is no run.
+pub fn scan(run: AsciiRun, input: &[u8]) -> Option<AsciiRunScan> {
+    run.scan(input)
+}
+
+/// The class of the ranges whose run these words are exactly.
+pub fn class(words: &[u32]) -> Option<AsciiRangeClass> {
+    match read_run(words)? {
+        (AsciiRun::Ranges(ranges), read) if read == words.len() => Some(ranges.class()),
+        _ => None,
+    }
+}
+
+fn intervals(list: &[LexerTransition]) -> Vec<Vec<(i32, i32)>> {
+    list.iter().map(transition_char_intervals).collect()
+}
+
+/// The segments of a transition list.
+pub fn segments(list: &[LexerTransition]) -> Vec<(i32, i32)> {
+    char_segments(&intervals(list))
+}
+
+/// The masks of a transition list, segment after segment.
+pub fn masks(list: &[LexerTransition]) -> Vec<u64> {
+    let intervals = intervals(list);
+    segment_mask_matrix(&char_segments(&intervals), &intervals, list.len())
+}
+
+/// The ascii row and the wide row of segments with their targets.
+pub fn split(segments: &[(i32, i32, u16)]) -> ([u16; 128], Vec<(u32, u32, u16)>) {
+    let (ascii, wide) = split_rows(segments);
+    let wide = wide
+        .iter()
+        .map(|range| (range.low, range.high, range.target));
+    (ascii, wide.collect())
+}
+
+/// The escape row of segments with their continuations.
+pub fn merge(segments: &[(i32, i32, u32)]) -> Vec<(u32, u32, u32)> {
+    merge_escape_ranges(segments)
+        .iter()
+        .map(|range| (range.low, range.high, range.continuation))
+        .collect()
+}
+
+/// Both pools with their rows.
+#[derive(Debug, Default)]
+pub struct Pools {
+    known: RowPools,
+    ascii: Vec<[u16; 128]>,
+    wide: Vec<Box<[WideRange]>>,
+}
+
+impl Pools {
+    pub fn intern_ascii(&mut self, row: [u16; 128]) -> u32 {
+        self.known.intern_ascii(&mut self.ascii, row)
+    }
+
+    pub fn intern_wide(&mut self, row: &[(u32, u32, u16)]) -> u32 {
+        let row = row
+            .iter()
+            .map(|&(low, high, target)| WideRange { low, high, target })
+            .collect();
+        self.known.intern_wide(&mut self.wide, row)
+    }
+}
