@@ -1,5 +1,5 @@
 //! Links the static library that `rt staticlib lexer_dfa_c` writes at the top of the repository.
-//! LEXER_DFA_LIB names another folder that has it.
+//! LEXER_DFA_LIB names another folder that has it, by a full path.
 
 use std::env;
 use std::path::{Path, PathBuf};

@@ -1,8 +1,8 @@
 //! Reads the original `ascii_range.rs` and `lexer_dfa.rs` from docs/src, applies the edits of
 //! `edits.rs` and leaves the result in OUT_DIR for `src/lib.rs` to include.
 //!
-//! The folder docs/src is the one that LEXER_DFA_SRC names, else the one beside the repository.
-//! Where it has no original, the crate is built with the cfg `no_oracle`.
+//! The folder docs/src is the one that LEXER_DFA_SRC names (by a full path), else the one beside the
+//! repository. Where it has no original, the crate is built with the cfg `no_oracle`.
 
 mod edits;
 
@@ -23,10 +23,7 @@ fn main() {
 
     let from = source_folder();
     println!("cargo::rustc-env=ORACLE_FOLDER={}", from.display());
-    let files = [
-        ("ascii_range.rs", edits::ASCII_RANGE),
-        ("lexer_dfa.rs", edits::LEXER_DFA),
-    ];
+    let files = [("ascii_range.rs", edits::ASCII_RANGE), ("lexer_dfa.rs", edits::LEXER_DFA)];
     // A file that is not there yet is watched too, so that the oracle is built once it comes.
     for (name, _) in files {
         println!("cargo::rerun-if-changed={}", from.join(name).display());

@@ -19,33 +19,15 @@ pub enum How {
 }
 
 const fn everywhere(anchor: &'static str, put: &'static str, why: &'static str) -> Edit {
-    let how = How::Everywhere;
-    Edit {
-        how,
-        anchor,
-        put,
-        why,
-    }
+    Edit { how: How::Everywhere, anchor, put, why }
 }
 
 const fn once(anchor: &'static str, put: &'static str, why: &'static str) -> Edit {
-    let how = How::Once;
-    Edit {
-        how,
-        anchor,
-        put,
-        why,
-    }
+    Edit { how: How::Once, anchor, put, why }
 }
 
 const fn drop_item(anchor: &'static str, why: &'static str) -> Edit {
-    let how = How::DropItem;
-    Edit {
-        how,
-        anchor,
-        put: "",
-        why,
-    }
+    Edit { how: How::DropItem, anchor, put: "", why }
 }
 
 const INNER_DOC: &str = "an included file may not open with an inner doc comment";
@@ -69,35 +51,16 @@ pub const LEXER_DFA: &[Edit] = &[
     everywhere("pub(super)", "pub", OPEN),
     // What document 01 fixes. Its ESCAPE_STATE and DEAD_STATE are the source's own.
     once("0x4C58_4407", "0x4C44_0001", "document 01 fixes the tag"),
-    once(
-        "_ => {}",
-        "",
-        "document 01's five kinds of transition leave no other",
-    ),
+    once("_ => {}", "", "document 01's five kinds of transition leave no other"),
     // Names that are met elsewhere, or no more.
-    once(
-        "use memchr::",
-        "use crate::memchr::",
-        "no crate from a registry: src/memchr.rs stands in",
-    ),
-    once(
-        "{LexerAtn, LexerTransition}",
-        "LexerTransition",
-        "the ATN stays in Rust; src/atn.rs has the transitions",
-    ),
-    once(
-        "{PredictionFxHasher, PredictionWorkspace}",
-        "PredictionFxHasher",
-        "the workspace is the interpreter's",
-    ),
+    once("use memchr::", "use crate::memchr::", "src/memchr.rs stands in for the registry's"),
+    once("{LexerAtn, LexerTransition}", "LexerTransition", "src/atn.rs has the five kinds"),
+    once("{PredictionFxHasher, PredictionWorkspace}", "PredictionFxHasher", CLOSURE),
     drop_item("use crate::atn::lexer::{", CLOSURE),
     drop_item("use crate::int_stream::EOF", COMPILE),
     drop_item("use crate::lexer::{", CLOSURE),
     // `from_encoded` and `compile`, with all that only they reach.
-    drop_item(
-        "pub fn from_encoded(",
-        "document 01 leaves it in Rust: it needs the blob container",
-    ),
+    drop_item("pub fn from_encoded(", "document 01 leaves it in Rust: it needs the blob container"),
     drop_item("pub fn compile(", COMPILE),
     drop_item("const MAX_MODE_STATES", COMPILE),
     drop_item("const MAX_CONTEXT_DEPTH", CLOSURE),

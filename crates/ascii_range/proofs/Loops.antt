@@ -14,7 +14,7 @@ use borrow.Author.Needs.{needs}
 use mir.Val.{Fits}
 use mir.Syntax.{w8}
 use Rattle.refusal.specs.Lists.{pick, before}
-use Rattle.refusal.proofs.Lists.{before-≤, before-stop, before-pass, before-true, before-false, before-next}
+use Rattle.refusal.proofs.Lists.{before-≤, before-stop, before-pass, before-true, before-false, before-next, before-here}
 use Rattle.ascii_range.specs.declared.AsciiRange.{AsciiRange}
 use Rattle.ascii_range.specs.declared.AsciiRanges.{AsciiRanges}
 use Rattle.ascii_range.specs.Ranges.{range, loopsAt, exitsAt, joined, rangesFrom, noRanges, upToFour, loopRanges}
@@ -136,14 +136,8 @@ module _ (state : ℕ) (row : List ℕ) where
       rw (g .whole, ← all-found h, n, le-leb count 4 (g .few), ← g .clear, take-append-drop)
 
     -- the symbol at `low` loops, so that a range of one symbol at least starts there
-    looping : low < length row → loopsAt state (getD row low 0) ≡ true
-    looping h = cases (loopsAt state (getD row low 0)) refl where
-      cases : (b : Bool) → loopsAt state (getD row low 0) ≡ b → b ≡ true
-      cases true e = refl
-      cases false e = absurd (omega (arith, before-pass (loopsAt state) row low h e, g .loops))
-
     pub longer : (h : low < length row) → before (exitsAt state) (drop low row) ≡ suc (before (exitsAt state) (drop (low + 1) row))
-    longer h = omega (arith, before-pass (exitsAt state) row low h (ap not (looping h)))
+    longer h = omega (arith, before-pass (exitsAt state) row low h (ap not (before-here (loopsAt state) row low h (g .loops))))
 
     -- the range at `low`, and the ranges behind it
     pub found-next : {end : ℕ} → low < length row → end ≡ low + before (exitsAt state) (drop low row) → rangesFrom state low (drop low row) ≡ range low (end - 1) ∷ rangesFrom state end (drop end row)

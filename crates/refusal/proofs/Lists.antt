@@ -64,6 +64,13 @@ module _ (p : ℕ → Bool) where
   pub before-next : (xs : List ℕ) (at : ℕ) {n : ℕ} → n ≡ at + before p (drop at xs) → before p (drop n xs) ≡ 0
   before-next xs at h = rw (h, ← drop-drop) (before-again (drop at xs))
 
+  -- a search that ends at once ends at a place where the test holds
+  pub before-here : (xs : List ℕ) (i : ℕ) → i < length xs → before p (drop i xs) ≡ 0 → p (getD xs i 0) ≡ true
+  before-here xs i h z = cases (p (getD xs i 0)) refl where
+    cases : (t : Bool) → p (getD xs i 0) ≡ t → t ≡ true
+    cases true e = refl
+    cases false e = absurd (omega (arith, before-pass xs i h e))
+
   -- nothing is left
   pub before-end : (xs : List ℕ) (i : ℕ) → length xs ≤ i → before p (drop i xs) ≡ 0
   unfolding before

@@ -1,5 +1,5 @@
-//! What document 01 has the calls of this slice refuse, read once more and as plainly as it goes.
-//! The original knows no numbers and places of refusals, so these are what it is held to.
+//! What document 01 has the calls refuse, read once more and as plainly as it goes. The original
+//! has no numbers and places of refusals, so the library is held to these.
 
 use lexer_dfa::Refusal;
 

@@ -34,14 +34,8 @@ fn put_words(words: &[u32], out: &mut Vec<u8>) {
 }
 
 fn classify(from: &mut Seeded, out: &mut Vec<u8>) {
-    let (state, other) = from.pick(&[
-        (0, 1),
-        (1, 0),
-        (7, 65535),
-        (65533, 65534),
-        (65534, 65535),
-        (65535, 0),
-    ]);
+    let (state, other) =
+        from.pick(&[(0, 1), (1, 0), (7, 65535), (65533, 65534), (65534, 65535), (65535, 0)]);
     let loops = looping(from);
     let row = loops.map(|looping| if looping { state } else { other });
     let words = oracle::run_words(oracle::classify(&row, state));

@@ -67,3 +67,48 @@ pub fn scan(words: &[u32], input: &[u8]) -> ScanAnswer {
     // SAFETY: both pointers and lengths are those of live slices, only read; all values are taken.
     unsafe { lexer_dfa_scan(words.as_ptr(), words.len(), input.as_ptr(), input.len()) }
 }
+
+#[cfg(test)]
+mod tests {
+    use super::*;
+
+    /// What the header promises of a refused answer: every other field is 0 or false.
+    #[test]
+    fn a_refused_answer_is_empty() {
+        let mut row = [0; 129];
+        row[48..58].fill(7);
+        for length in [0, 58, 127, 129] {
+            let answer = classify(&row[..length], 7);
+            assert_eq!((answer.number, answer.place, answer.length), (3, 0, 0));
+            assert_eq!([answer.first, answer.second, answer.third], [0; 3]);
+        }
+        let words: [&[u32]; 5] = [&[], &[261, 14640], &[261, 14640, 1], &[6], &[8706, 0]];
+        for words in words {
+            let answer = class(words);
+            assert_eq!((answer.number, answer.place, answer.class), (3, 0, 0));
+            let answer = scan(words, b"10 ply");
+            assert_eq!((answer.number, answer.place, answer.bytes), (3, 0, 0));
+            assert!(!answer.ran && !answer.found_exit);
+        }
+        for words in &words[..4] {
+            let answer = read_run(words, 0);
+            assert!(matches!(answer.number, 1 | 3));
+            assert_eq!(answer.length, 0);
+            assert_eq!([answer.first, answer.second, answer.third], [0; 3]);
+        }
+    }
+
+    /// The words behind a run's own are 0, and an accepted answer's place is 0.
+    #[test]
+    fn an_accepted_answer_has_only_its_own_words() {
+        let answer = read_run(&[8706, 5, 6, 7], 0);
+        assert_eq!((answer.number, answer.place, answer.length), (0, 0, 1));
+        assert_eq!([answer.first, answer.second, answer.third], [8706, 0, 0]);
+        let answer = classify(&[7; 128], 7);
+        assert_eq!((answer.number, answer.place, answer.length), (0, 0, 1));
+        assert_eq!([answer.first, answer.second, answer.third], [1, 0, 0]);
+        let answer = scan(&[0], b"10 ply");
+        assert_eq!((answer.number, answer.place, answer.bytes), (0, 0, 0));
+        assert!(!answer.ran && !answer.found_exit);
+    }
+}

@@ -47,13 +47,7 @@ impl Refusal {
 
 impl fmt::Display for Refusal {
     fn fmt(&self, f: &mut fmt::Formatter<'_>) -> fmt::Result {
-        write!(
-            f,
-            "refusal {} {} at {}",
-            self.number,
-            self.name(),
-            self.place
-        )
+        write!(f, "refusal {} {} at {}", self.number, self.name(), self.place)
     }
 }
 

@@ -41,10 +41,7 @@ impl AsciiRun {
     pub fn from_words(words: &[u32]) -> Result<AsciiRun, Refusal> {
         // The scan asks the same of its words, whatever the input.
         scan(words, &[])?;
-        let mut run = AsciiRun {
-            words: [0; 3],
-            length: words.len(),
-        };
+        let mut run = AsciiRun { words: [0; 3], length: words.len() };
         run.words[..words.len()].copy_from_slice(words);
         Ok(run)
     }
@@ -93,10 +90,7 @@ impl AsciiRun {
 
     fn from_answer(answer: ffi::RunAnswer) -> Result<AsciiRun, Refusal> {
         Refusal::unless_accepted(answer.number, answer.place)?;
-        Ok(AsciiRun {
-            words: [answer.first, answer.second, answer.third],
-            length: answer.length,
-        })
+        Ok(AsciiRun { words: [answer.first, answer.second, answer.third], length: answer.length })
     }
 }
 
@@ -125,8 +119,5 @@ pub struct AsciiRunScan {
 pub fn scan(words: &[u32], input: &[u8]) -> Result<Option<AsciiRunScan>, Refusal> {
     let answer = ffi::scan(words, input);
     Refusal::unless_accepted(answer.number, answer.place)?;
-    Ok(answer.ran.then_some(AsciiRunScan {
-        bytes: answer.bytes,
-        found_exit: answer.found_exit,
-    }))
+    Ok(answer.ran.then_some(AsciiRunScan { bytes: answer.bytes, found_exit: answer.found_exit }))
 }

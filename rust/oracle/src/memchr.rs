@@ -9,7 +9,5 @@ pub fn memchr2(a: u8, b: u8, input: &[u8]) -> Option<usize> {
 }
 
 pub fn memchr3(a: u8, b: u8, c: u8, input: &[u8]) -> Option<usize> {
-    input
-        .iter()
-        .position(|&byte| byte == a || byte == b || byte == c)
+    input.iter().position(|&byte| byte == a || byte == b || byte == c)
 }

@@ -6,11 +6,10 @@
 //! run. A word runs only the checks whose names have it.
 
 mod byte;
-mod class;
-mod classify;
 mod examples;
-mod read_run;
-mod scan;
+#[cfg(not(no_oracle))]
+mod live;
+mod refusals;
 mod telling;
 
 use std::time::Instant;
@@ -18,87 +17,39 @@ use std::time::Instant;
 /// A check ends in a panic where something differs, else with the number of its cases.
 type Check = fn() -> usize;
 
-/// A check that needs the original: the reason why not where it is not at hand.
+/// A check that needs the original; without it, the reason why it is not run.
 #[cfg(not(no_oracle))]
 macro_rules! live {
-    ($check:path) => {
-        Ok($check)
+    ($($check:ident)::+) => {
+        Ok(live::$($check)::+)
     };
 }
 #[cfg(no_oracle)]
 macro_rules! live {
-    ($check:path) => {
+    ($($check:ident)::+) => {
         Err(compare::no_original())
     };
 }
 
 fn checks() -> Vec<(&'static str, Result<Check, String>)> {
     vec![
-        (
-            "examples: document 01's, by the original",
-            live!(examples::original),
-        ),
-        (
-            "examples: document 01's, by the library",
-            Ok(examples::library),
-        ),
-        (
-            "class_of_byte: all bytes, by Rust's own",
-            Ok(byte::every_byte),
-        ),
-        (
-            "class: every range, by the original",
-            live!(class::every_range),
-        ),
-        (
-            "class: every pair of ranges, by the original",
-            live!(class::every_pair),
-        ),
-        (
-            "class: three and four ranges, by the original",
-            live!(class::more_ranges),
-        ),
-        (
-            "class: damaged words, by the plain reading",
-            Ok(class::damaged),
-        ),
-        (
-            "classify: ranges over a grid, by the original",
-            live!(classify::grid),
-        ),
-        (
-            "classify: up to three exits, by the original",
-            live!(classify::exits),
-        ),
-        (
-            "classify: seeded rows, by the original",
-            live!(classify::seeded),
-        ),
-        (
-            "classify: lengths, by the plain reading",
-            Ok(classify::lengths),
-        ),
-        (
-            "read_run: telling words, by the original",
-            live!(read_run::original),
-        ),
-        (
-            "read_run: telling words, by the plain reading",
-            Ok(read_run::plain),
-        ),
-        (
-            "read_run: cuts and places, by the plain reading",
-            Ok(read_run::cuts),
-        ),
-        (
-            "scan: every length and exit, by the original",
-            live!(scan::every_exit),
-        ),
+        ("examples: document 01's, by the original", live!(examples::original)),
+        ("examples: document 01's, by the library", Ok(examples::library)),
+        ("class_of_byte: all bytes, by Rust's own", Ok(byte::every_byte)),
+        ("class: every range, by the original", live!(class::every_range)),
+        ("class: every pair of ranges, by the original", live!(class::every_pair)),
+        ("class: three and four ranges, by the original", live!(class::more_ranges)),
+        ("class: damaged words, by the plain reading", Ok(refusals::class_of)),
+        ("classify: ranges over a grid, by the original", live!(classify::grid)),
+        ("classify: up to three exits, by the original", live!(classify::exits)),
+        ("classify: seeded rows, by the original", live!(classify::seeded)),
+        ("classify: lengths, by the plain reading", Ok(refusals::classify)),
+        ("read_run: telling words, by the original", live!(read_run::telling_words)),
+        ("read_run: telling words, by the plain reading", Ok(refusals::read_run)),
+        ("read_run: cuts and places, by the plain reading", Ok(refusals::read_run_cut)),
+        ("scan: every length and exit, by the original", live!(scan::every_exit)),
         ("scan: seeded runs, by the original", live!(scan::seeded)),
-        (
-            "scan: wrong words, by the plain reading",
-            Ok(scan::wrong_words),
-        ),
+        ("scan: wrong words, by the plain reading", Ok(refusals::scan_words)),
         ("record: the sample of replay, by the original", sample()),
     ]
 }
@@ -109,28 +60,13 @@ fn sample() -> Result<Check, String> {
     if !std::path::Path::new(SAMPLE).exists() {
         return Err("crates/replay/stdin is not there".to_string());
     }
-    live!(recorded)
-}
-
-/// The sample that stands in the repository is the one that `record` writes.
-#[cfg(not(no_oracle))]
-fn recorded() -> usize {
-    let stands = std::fs::read(SAMPLE).expect("crates/replay/stdin can be read");
-    let written = compare::sample::bytes();
-    assert!(
-        stands == written,
-        "crates/replay/stdin is not what `cargo run --release --bin record` writes"
-    );
-    1
+    live!(sample::is_recorded)
 }
 
 fn main() {
     let words: Vec<String> = std::env::args().skip(1).collect();
     let asked = |name: &str| {
-        let mut words = words
-            .iter()
-            .filter(|word| !word.starts_with('-'))
-            .peekable();
+        let mut words = words.iter().filter(|word| !word.starts_with('-')).peekable();
         words.peek().is_none() || words.any(|word| name.contains(word.as_str()))
     };
     let (mut run, mut not_run) = (0, 0);

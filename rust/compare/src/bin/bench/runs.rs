@@ -41,11 +41,7 @@ pub fn scans() {
             let mut from = Seeded::new(7);
             let order: Vec<usize> = (0..2048).map(|_| from.below(longest + 1)).collect();
             let inputs: Vec<&[u8]> = order.iter().map(|&length| &inputs[length][..]).collect();
-            scan(
-                &format!("scan {name}, exit at 0..{longest}"),
-                words,
-                &inputs,
-            );
+            scan(&format!("scan {name}, 0..{longest} bytes"), words, &inputs);
         }
         let long = input(65536, ends);
         scan(&format!("scan {name}, 64 KiB"), words, &[&long[..]; 4]);

@@ -20,10 +20,7 @@ pub fn run_words(run: AsciiRun) -> Vec<u32> {
 
 /// The run at the front of the words and the number of its words.
 pub fn read_run(words: &[u32]) -> Option<(AsciiRun, usize)> {
-    let mut reader = SerializedReader {
-        data: words,
-        position: 0,
-    };
+    let mut reader = SerializedReader { data: words, position: 0 };
     let run = AsciiRun::read_serialized(&mut reader)?;
     Some((run, reader.position))
 }
@@ -59,9 +56,7 @@ pub fn masks(list: &[LexerTransition]) -> Vec<u64> {
 /// The ascii row and the wide row of segments with their targets.
 pub fn split(segments: &[(i32, i32, u16)]) -> ([u16; 128], Vec<(u32, u32, u16)>) {
     let (ascii, wide) = split_rows(segments);
-    let wide = wide
-        .iter()
-        .map(|range| (range.low, range.high, range.target));
+    let wide = wide.iter().map(|range| (range.low, range.high, range.target));
     (ascii, wide.collect())
 }
 
@@ -87,10 +82,7 @@ impl Pools {
     }
 
     pub fn intern_wide(&mut self, row: &[(u32, u32, u16)]) -> u32 {
-        let row = row
-            .iter()
-            .map(|&(low, high, target)| WideRange { low, high, target })
-            .collect();
+        let row = row.iter().map(|&(low, high, target)| WideRange { low, high, target }).collect();
         self.known.intern_wide(&mut self.wide, row)
     }
 }

@@ -1,38 +1,20 @@
-//! Scans.
+//! Scans, by the original.
 
-use super::telling;
-use compare::plain;
-#[cfg(not(no_oracle))]
+use crate::telling;
 use compare::seeded::Seeded;
-use lexer_dfa::{AsciiRun, scan};
+use lexer_dfa::AsciiRun;
 
 /// Equal answers, and the front part handed back is the input itself.
-#[cfg(not(no_oracle))]
 fn same(run: AsciiRun, theirs: oracle::AsciiRun, input: &[u8]) {
     let expected = oracle::scan(theirs, input).map(|scan| (scan.bytes, scan.found_exit));
     let length = run.scan_length(input);
     let told = || format!("{run:?} over {input:?}");
-    assert_eq!(
-        length.map(|scan| (scan.bytes, scan.found_exit)),
-        expected,
-        "{}",
-        told()
-    );
+    assert_eq!(length.map(|scan| (scan.bytes, scan.found_exit)), expected, "{}", told());
     let front = run.scan(input);
-    assert_eq!(
-        front.map(<[u8]>::len),
-        expected.map(|(bytes, _)| bytes),
-        "{}",
-        told()
-    );
-    assert!(
-        front.is_none_or(|front| front.as_ptr() == input.as_ptr()),
-        "{}",
-        told()
-    );
+    assert_eq!(front.map(<[u8]>::len), expected.map(|(bytes, _)| bytes), "{}", told());
+    assert!(front.is_none_or(|front| front.as_ptr() == input.as_ptr()), "{}", told());
 }
 
-#[cfg(not(no_oracle))]
 fn both(words: &[u32]) -> (AsciiRun, oracle::AsciiRun) {
     let ours = AsciiRun::from_words(words).expect("the words of a run");
     let (theirs, _) = oracle::read_run(words).expect("the words of a run");
@@ -41,7 +23,6 @@ fn both(words: &[u32]) -> (AsciiRun, oracle::AsciiRun) {
 
 /// Runs of every kind over inputs of 0 to 300 bytes, all alike but for one byte that ends the run,
 /// at every place, or for none.
-#[cfg(not(no_oracle))]
 pub fn every_exit() -> usize {
     const LONGEST: usize = 300;
     const FILLS: [u8; 6] = [48, 65, 127, 128, 200, 255];
@@ -75,7 +56,6 @@ pub fn every_exit() -> usize {
 }
 
 /// Seeded runs over seeded bytes.
-#[cfg(not(no_oracle))]
 pub fn seeded() -> usize {
     const SCANS: usize = 300_000;
     let mut from = Seeded::new(6);
@@ -99,36 +79,4 @@ pub fn seeded() -> usize {
         same(ours, theirs, &input[..length]);
     }
     SCANS
-}
-
-/// Words that are not exactly one run's are refused, whatever the input.
-pub fn wrong_words() -> usize {
-    let mut cases = 0;
-    let mut judged = |words: &[u32]| {
-        for input in [&b""[..], b"10 ply", &[255; 70]] {
-            let ours = scan(words, input).map(|_| ());
-            assert_eq!(ours, plain::one_run(words), "{words:?}");
-            cases += 1;
-        }
-        assert_eq!(
-            AsciiRun::from_words(words).map(|_| ()),
-            plain::one_run(words),
-            "{words:?}"
-        );
-    };
-    for first in telling::first_words() {
-        for length in 0..=4 {
-            judged(&[first, 14640, 0, 0][..length]);
-        }
-    }
-    for [second, third] in telling::range_words() {
-        judged(&[5 | 2 << 8, second, third]);
-        judged(&[5 | 4 << 8, second, third]);
-    }
-    for run in telling::RUNS {
-        for other in telling::RUNS {
-            judged(&[run, other].concat());
-        }
-    }
-    cases
 }

@@ -1,22 +1,12 @@
-//! Classification of rows.
+//! Classification of rows, by the original.
 
-use compare::plain;
-#[cfg(not(no_oracle))]
 use compare::seeded::Seeded;
 use lexer_dfa::AsciiRun;
 
 /// States with another target, the highest numbers among them.
-#[cfg(not(no_oracle))]
-const STATES: [(u16, u16); 6] = [
-    (0, 1),
-    (7, 0),
-    (300, 44),
-    (65533, 65534),
-    (65534, 65535),
-    (65535, 0),
-];
+const STATES: [(u16, u16); 6] =
+    [(0, 1), (7, 0), (300, 44), (65533, 65534), (65534, 65535), (65535, 0)];
 
-#[cfg(not(no_oracle))]
 fn same(row: &[u16; 128], state: u16) {
     let ours = AsciiRun::classify(row, state).expect("128 targets are taken");
     let theirs = oracle::run_words(oracle::classify(row, state));
@@ -25,11 +15,9 @@ fn same(row: &[u16; 128], state: u16) {
 
 /// Every set of no to five ranges whose bounds are cuts of a grid, and all but such a set. That is
 /// runs of every kind, and none.
-#[cfg(not(no_oracle))]
 pub fn grid() -> usize {
-    const CUTS: [usize; 18] = [
-        0, 1, 2, 9, 14, 32, 47, 48, 57, 58, 65, 91, 97, 103, 123, 126, 127, 128,
-    ];
+    const CUTS: [usize; 18] =
+        [0, 1, 2, 9, 14, 32, 47, 48, 57, 58, 65, 91, 97, 103, 123, 126, 127, 128];
     let mut cases = 0;
     // An even number of cuts bounds the ranges: the first to the second, the third to the fourth.
     for chosen in 0_u32..1 << CUTS.len() {
@@ -55,7 +43,6 @@ pub fn grid() -> usize {
 }
 
 /// Every set of one to three exits among all symbols, and of four among some.
-#[cfg(not(no_oracle))]
 pub fn exits() -> usize {
     let mut cases = 0;
     let mut without = |exits: &[usize]| {
@@ -85,7 +72,6 @@ pub fn exits() -> usize {
 }
 
 /// Rows of every density: a few exits, a few ranges, or anything, over few targets or many.
-#[cfg(not(no_oracle))]
 pub fn seeded() -> usize {
     const ROWS: usize = 100_000;
     let mut from = Seeded::new(4);
@@ -111,17 +97,4 @@ pub fn seeded() -> usize {
         same(&row, state);
     }
     ROWS
-}
-
-/// Only 128 targets are taken.
-pub fn lengths() -> usize {
-    let targets = [7; 1024];
-    for length in 0..=targets.len() {
-        for state in [0, 7, 65535] {
-            let row = &targets[..length];
-            let ours = AsciiRun::classify(row, state).map(|_| ());
-            assert_eq!(ours, plain::row(row), "{length} targets");
-        }
-    }
-    3 * (targets.len() + 1)
 }

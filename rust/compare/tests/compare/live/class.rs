@@ -1,10 +1,8 @@
-//! The class of ranges.
+//! The class of ranges, by the original.
 
-use compare::plain;
 use compare::seeded::{Seeded, range_words};
 use lexer_dfa::class;
 
-#[cfg(not(no_oracle))]
 fn same(ranges: &[(u8, u8)]) {
     use lexer_dfa::AsciiRangeClass as Ours;
     use oracle::AsciiRangeClass as Theirs;
@@ -19,7 +17,6 @@ fn same(ranges: &[(u8, u8)]) {
     assert_eq!(class(&words), Ok(theirs), "{ranges:?}");
 }
 
-#[cfg(not(no_oracle))]
 pub fn every_range() -> usize {
     let mut cases = 0;
     for low in 0..128 {
@@ -31,7 +28,6 @@ pub fn every_range() -> usize {
     cases
 }
 
-#[cfg(not(no_oracle))]
 pub fn every_pair() -> usize {
     let mut cases = 0;
     for low in 0..128 {
@@ -48,7 +44,6 @@ pub fn every_pair() -> usize {
 }
 
 /// Seeded over all of ASCII, and over the bounds of the classes, where more than "other" is met.
-#[cfg(not(no_oracle))]
 pub fn more_ranges() -> usize {
     const TELLING: [(u8, u8); 12] = [
         (9, 10),
@@ -89,38 +84,6 @@ pub fn more_ranges() -> usize {
             same(&chosen);
             cases += 1;
         }
-    }
-    cases
-}
-
-/// Good words with every bit changed in turn, words of other kinds, and other lengths.
-pub fn damaged() -> usize {
-    let mut cases = 0;
-    let mut judged = |words: &[u32]| {
-        assert_eq!(
-            class(words).map(|_| ()),
-            plain::three_words(words),
-            "{words:?}"
-        );
-        cases += 1;
-    };
-    let mut from = Seeded::new(3);
-    for count in [1, 2, 3, 4].repeat(500) {
-        let words = range_words(&from.ranges(count));
-        judged(&words);
-        for bit in 0..96 {
-            let mut damaged = words;
-            damaged[bit / 32] ^= 1 << (bit % 32);
-            judged(&damaged);
-        }
-        let longer = [&words[..], &words[..]].concat();
-        for length in 0..=6 {
-            judged(&longer[..length]);
-        }
-    }
-    for words in super::telling::RUNS {
-        judged(words);
-        judged(&[words, &[0, 0]].concat());
     }
     cases
 }

@@ -1,0 +1,97 @@
+-- What the answers say, case by case, for the functions that make them. Assumes nothing.
+use Prim.Native.Nat.{ℕ, zero, suc, _+_, _*_, _-_, _/_, _%_, _≤_, _<_}
+use native.Mathlib.Omega.{arith}
+use mathlib.Core.Path.{_≡_, refl, ap, sym, _∙_}
+use mathlib.Core.Bool.{Bool, true, false, _&&_, and-false}
+use mathlib.Core.List.{List, [], _∷_}
+use lib.Dec.{eqb, leb, ltb}
+use lib.ListN.{length, getD, take, drop}
+use borrow.Author.Needs.{needs}
+use borrow.Author.Tests.{eq-eqb, ne-eqb, le-leb, lt-leb, lt-ltb, le-ltb}
+use Rattle.refusal.specs.declared.Refusal.{Refusal}
+use Rattle.refusal.specs.Said.{Said, ok, no, SHORT, FIELD}
+use Rattle.refusal.specs.Lists.{pick, every}
+use Rattle.ascii_range.specs.declared.AsciiRange.{AsciiRange}
+use Rattle.ascii_range.specs.declared.AsciiRanges.{AsciiRanges}
+use Rattle.ascii_range.specs.declared.PackedRanges.{PackedRanges}
+use Rattle.ascii_range.specs.Ranges.{noRanges, upToFour, loopRanges, rangesOfRun}
+use Rattle.ascii_run.specs.declared.AsciiRun.{AsciiRun}
+use Rattle.ascii_run.specs.declared.AsciiRun.the-variants.{None, Any, Until1, Until2, Until3, Ranges}
+use Rattle.ascii_run.specs.declared.Run.{Run}
+use Rattle.ascii_run.specs.declared.Answered.{Answered}
+use Rattle.ascii_run.specs.declared.Answered.the-variants.{Ran, Refused}
+use Rattle.ascii_run.specs.declared.RunAnswer.{RunAnswer}
+use Rattle.ascii_run.specs.Shape.{Shape, none, any, until, ranges, plain, held, Got, run, refused, said, gotSaid, gotRanges, answered, kindSaid, Gives}
+use Rattle.ascii_run.specs.Classify.{byRanges}
+use Rattle.ascii_run.specs.Words.{isZero, isAscii, orField, shortRun, kindOf, bytesOf, rangesRun, packedAt, readAt, sizeOf, aloneIn, readAlone}
+
+-- An answer is the one for what was got exactly when it says so, with the ranges beside it.
+pub gives : {r : RunAnswer} (g : Got) → r ≡ answered g → Gives r g
+gives (run q) e = record { says = rw e refl; beside = rw e refl }
+gives (refused n p) e = record { says = rw e refl; beside = rw e refl }
+
+-- `said` takes no two answers to one: what it says gives the answer back
+abbrev kindBack : List ℕ → AsciiRun
+kindBack l =
+    pick (eqb (getD l 0 0) 0) None
+    (pick (eqb (getD l 0 0) 1) Any
+    (pick (eqb (getD l 0 0) 2) (Until1 (getD l 1 0))
+    (pick (eqb (getD l 0 0) 3) (Until2 (getD l 1 0) (getD l 2 0))
+    (pick (eqb (getD l 0 0) 4) (Until3 (getD l 1 0) (getD l 2 0) (getD l 3 0)) Ranges))))
+
+abbrev back : Said → Answered
+back (ok l) = Ran (kindBack l)
+back (no n p) = Refused (record { number = n; place = p })
+
+back-said : (x : Answered) → back (said x) ≡ x
+back-said (Ran None) = refl
+back-said (Ran Any) = refl
+back-said (Ran (Until1 a)) = refl
+back-said (Ran (Until2 a b)) = refl
+back-said (Ran (Until3 a b c)) = refl
+back-said (Ran Ranges) = refl
+back-said (Refused r) = refl
+
+pub said-one : (x y : Answered) → said x ≡ said y → x ≡ y
+said-one x y e = sym (back-said x) ∙ ap back e ∙ back-said y
+
+same : (r : RunAnswer) {x : Answered} {y : AsciiRanges} → r .answer ≡ x → r .ranges ≡ y → r ≡ record { answer = x; ranges = y }
+same r e f = rw (← e, ← f)
+
+pub given : {r : RunAnswer} (g : Got) → Gives r g → r ≡ answered g
+given {r} (run q) h = same r (said-one (r .answer) (Ran (q .kind)) (h .says)) (h .beside)
+given {r} (refused n p) h = same r (said-one (r .answer) (Refused (record { number = n; place = p })) (h .says)) (h .beside)
+
+-- More than three exits: the ranges, or none.
+module _ (rs : List AsciiRange) where
+  count-few : leb (length rs) 4 ≡ true → upToFour rs .count ≡ length rs
+  unfolding upToFour
+  count-few e = rw e
+
+  count-many : leb (length rs) 4 ≡ false → upToFour rs .count ≡ 0
+  unfolding upToFour
+  count-many e = rw e
+
+  by-none : upToFour rs .count ≡ 0 → byRanges rs ≡ none
+  unfolding byRanges
+  by-none h = cases (leb (length rs) 4) refl where
+    cases : (b : Bool) → leb (length rs) 4 ≡ b → pick (leb 1 (length rs) && b) (ranges rs) none ≡ none
+    cases true e = let z : length rs ≡ 0 = omega (arith, count-few e) in rw z
+    cases false e = rw (and-false (leb 1 (length rs)))
+
+  by-some : (upToFour rs .count ≡ 0 → ⊥) → byRanges rs ≡ ranges rs
+  unfolding byRanges
+  by-some h = cases (leb (length rs) 4) refl where
+    cases : (b : Bool) → leb (length rs) 4 ≡ b → pick (leb 1 (length rs) && b) (ranges rs) none ≡ ranges rs
+    cases true e = let z : 1 ≤ length rs = omega (arith, count-few e, h) in rw (le-leb 1 (length rs) z)
+    cases false e = absurd (h (count-many e))
+
+  pub no-ranges : {q : AsciiRanges} {r : RunAnswer} → q ≡ upToFour rs → q .count ≡ 0 → r ≡ answered (run (plain None)) → r ≡ answered (run (held (byRanges rs)))
+  unfolding held
+  no-ranges e z f = f ∙ (rw (by-none (ap (λ (x : AsciiRanges). x .count) (sym e) ∙ z)))
+
+  pub some-ranges : {q : AsciiRanges} → q ≡ upToFour rs → (q .count ≡ 0 → ⊥) → record { answer = Ran Ranges; ranges = q } ≡ answered (run (held (byRanges rs)))
+  unfolding held
+  some-ranges e z = rw (by-some (λ k. z (ap (λ (x : AsciiRanges). x .count) e ∙ k)), e)
+
+pub ruleset answering = (needs, gives, no-ranges, some-ranges)

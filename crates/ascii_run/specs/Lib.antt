@@ -1,0 +1,4 @@
+pub mod Shape
+pub mod Classify
+pub mod Words
+pub mod Scan

@@ -1,0 +1,8 @@
+//! The checks that need the original.
+
+pub mod class;
+pub mod classify;
+pub mod examples;
+pub mod read_run;
+pub mod sample;
+pub mod scan;
