@@ -1,3 +1,4 @@
 pub mod Answers
 pub mod Exits
 pub mod Reading
+pub mod Scans

@@ -7,6 +7,8 @@ use lib.ListN.{length}
 use Rattle.refusal.specs.Said.{Said, ok}
 use Rattle.refusal.specs.Lists.{pick, some, before}
 use Rattle.ascii_range.specs.Ranges.{outside}
+use Rattle.ascii_run.specs.declared.AsciiRun.{AsciiRun}
+use Rattle.ascii_run.specs.declared.AsciiRun.the-variants.{None, Any, Until1, Until2, Until3, Ranges}
 use Rattle.ascii_run.specs.declared.AsciiRunScan.{AsciiRunScan}
 use Rattle.ascii_run.specs.declared.Scanned.{Scanned}
 use Rattle.ascii_run.specs.declared.Scanned.the-variants.{NoRun, Skipped}
@@ -22,6 +24,14 @@ stops (ranges rs) b = outside rs b
 -- how many bytes a run skips
 abbrev pub skipped : Shape → List ℕ → ℕ
 skipped s bs = before (stops s) bs
+
+abbrev pub isNone : AsciiRun → Bool
+isNone None = true
+isNone Any = false
+isNone (Until1 a) = false
+isNone (Until2 a b) = false
+isNone (Until3 a b c) = false
+isNone Ranges = false
 
 abbrev pub bit : Bool → ℕ
 bit b = pick b 1 0

@@ -79,6 +79,17 @@ module _ (p : ℕ → Bool) where
   pub ends : (xs : List ℕ) (i : ℕ) {n : ℕ} → length xs ≤ i → i + before p (drop i xs) ≡ n → i ≡ n
   ends xs i h a = omega (arith, before-end xs i h)
 
+-- a test that never holds, and one that always does
+pub before-never : (p : ℕ → Bool) → ((x : ℕ) → p x ≡ false) → (xs : List ℕ) → before p xs ≡ length xs
+unfolding before
+before-never p h [] = refl
+before-never p h (x ∷ xs) = rw (h x, before-never p h xs)
+
+pub before-always : (p : ℕ → Bool) → ((x : ℕ) → p x ≡ true) → (xs : List ℕ) → before p xs ≡ 0
+unfolding before
+before-always p h [] = refl
+before-always p h (x ∷ xs) = rw (h x)
+
 -- two tests that agree find the same place
 pub before-same : (p q : ℕ → Bool) → ((x : ℕ) → p x ≡ q x) → (xs : List ℕ) → before p xs ≡ before q xs
 unfolding before
