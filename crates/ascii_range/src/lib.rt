@@ -145,7 +145,7 @@ fn unused(ranges: [AsciiRange; 4], count: usize) -> bool
 }
 
 // The first `count` of four ranges, if they are a good list.
-pub fn new(count: u8, ranges: [AsciiRange; 4]) -> AsciiRanges
+fn new(count: u8, ranges: [AsciiRange; 4]) -> AsciiRanges
     ensures { λ r. ⌜ r ≡ checked count ranges ⌝ }
 {
     let n = count as usize;
@@ -172,7 +172,7 @@ fn range_in(half: u32) -> AsciiRange
 }
 
 // The first `count` of the ranges that two words hold, if they are a good list.
-pub fn from_packed(count: u8, words: PackedRanges) -> AsciiRanges
+fn from_packed(count: u8, words: PackedRanges) -> AsciiRanges
     ensures { λ r. ⌜ r ≡ checked count (unpacked words) ⌝ }
 {
     let a = range_in(words.first % 65536);

@@ -1,0 +1,46 @@
+-- The answers in C: a number of 0 and the values, or the refusal's number and place. Assumes nothing.
+use Prim.Native.Nat.{ℕ}
+use mathlib.Core.Bool.{true, false}
+use mathlib.Core.List.{List, [], _∷_}
+use lib.Dec.{eqb}
+use lib.ListN.{getD}
+use Rattle.refusal.specs.Said.{Said, ok, no}
+use Rattle.ascii_run.specs.declared.AsciiRun.{AsciiRun}
+use Rattle.ascii_run.specs.declared.Answered.the-variants.{Ran, Refused}
+use Rattle.ascii_run.specs.declared.Run.{Run}
+use Rattle.ascii_run.specs.declared.RunAnswer.{RunAnswer}
+use Rattle.ascii_run.specs.declared.RunWords.{RunWords}
+use Rattle.ascii_run.specs.declared.Scanned.{Scanned}
+use Rattle.ascii_run.specs.Shape.{shape, Got, run, refused, answered}
+use Rattle.ascii_run.specs.Words.{wordsOf, readAlone}
+use Rattle.ascii_run.specs.Scan.{said, scanSaid}
+use Rattle.lexer_dfa_c.specs.declared.CRun.{CRun}
+use Rattle.lexer_dfa_c.specs.declared.CScan.{CScan}
+
+abbrev pub wordsC : RunWords → CRun
+wordsC w = record { number = 0; place = 0; length = w .length; first = w .first; second = w .second; third = w .third }
+
+abbrev pub refusedRun : ℕ → ℕ → CRun
+refusedRun n p = record { number = n; place = p; length = 0; first = 0; second = 0; third = 0 }
+
+-- a run by its words
+abbrev pub runInC : Got → CRun
+runInC (run q) = wordsC (wordsOf (q .kind) (q .ranges))
+runInC (refused n p) = refusedRun n p
+
+abbrev pub refusedScan : ℕ → ℕ → CScan
+refusedScan n p = record { number = n; place = p; ran = false; bytes = 0; «found_exit» = false }
+
+-- no value: no run; else the length and the exit flag
+abbrev pub scanInC : Said → CScan
+scanInC (ok []) = refusedScan 0 0
+scanInC (ok (n ∷ l)) = record { number = 0; place = 0; ran = true; bytes = n; «found_exit» = eqb (getD l 0 0) 1 }
+scanInC (no n p) = refusedScan n p
+
+abbrev pub scanGot : Got → List ℕ → Said
+scanGot (run q) bs = scanSaid (shape q) bs
+scanGot (refused n p) bs = no n p
+
+-- the scan by the run whose words these are; anything but one run's words is FIELD
+abbrev pub scanCall : List ℕ → List ℕ → Said
+scanCall w bs = scanGot (readAlone w) bs

@@ -1,0 +1,30 @@
+-- `range_class::class_of_byte` meets its contract: each arm is a number that it names, or a range whose rule is one computed test.
+-- Assumes nothing.
+use Rattle.refusal.specs.Lists.{every}
+use Rattle.range_class.specs.Class.{byteClass, upFrom}
+use Rattle.range_class.proofs.Classes.{arms}
+use Rattle.range_class.proofs.class_of_byte.Statement.{statement}
+use Rattle.range_class.proofs.class_of_byte.Tie as tie
+
+pub class-of-byte-spec : {M : Type 1} → statement M
+unfolding byteClass every upFrom
+class-of-byte-spec =
+    tie.close
+    (tie.spec
+    (λ c. search arms)
+    (λ c. search arms)
+    (λ c. search arms)
+    (λ c. search arms)
+    (λ c. search arms)
+    (λ c. search arms)
+    (λ c. search arms)
+    (λ c. search arms)
+    (λ c. search arms)
+    (λ c. search arms)
+    (λ c. search arms)
+    (λ c. search arms)
+    (λ c. search arms)
+    (λ c. search arms)
+    (λ c. search arms)
+    (λ c. search arms)
+    (λ c. search arms))
