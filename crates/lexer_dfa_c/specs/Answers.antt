@@ -5,23 +5,32 @@ use mathlib.Core.List.{List, [], _∷_}
 use lib.Dec.{eqb}
 use lib.ListN.{getD}
 use Rattle.refusal.specs.Said.{Said, ok, no}
-use Rattle.ascii_run.specs.declared.AsciiRun.{AsciiRun}
+use Rattle.ascii_range.specs.declared.AsciiRanges.{AsciiRanges}
+use Rattle.ascii_run.specs.declared.Answered.{Answered}
 use Rattle.ascii_run.specs.declared.Answered.the-variants.{Ran, Refused}
-use Rattle.ascii_run.specs.declared.Run.{Run}
-use Rattle.ascii_run.specs.declared.RunAnswer.{RunAnswer}
 use Rattle.ascii_run.specs.declared.RunWords.{RunWords}
-use Rattle.ascii_run.specs.declared.Scanned.{Scanned}
-use Rattle.ascii_run.specs.Shape.{shape, Got, run, refused, answered}
+use Rattle.ascii_run.specs.Shape.{shape, Got, run, refused}
 use Rattle.ascii_run.specs.Words.{wordsOf, readAlone}
-use Rattle.ascii_run.specs.Scan.{said, scanSaid}
+use Rattle.ascii_run.specs.Scan.{scanSaid}
+use Rattle.lexer_dfa_c.specs.declared.CClass.{CClass}
 use Rattle.lexer_dfa_c.specs.declared.CRun.{CRun}
 use Rattle.lexer_dfa_c.specs.declared.CScan.{CScan}
+
+-- a class by its number
+abbrev pub classInC : Said → CClass
+classInC (ok l) = record { number = 0; place = 0; class = getD l 0 0 }
+classInC (no n p) = record { number = n; place = p; class = 0 }
 
 abbrev pub wordsC : RunWords → CRun
 wordsC w = record { number = 0; place = 0; length = w .length; first = w .first; second = w .second; third = w .third }
 
 abbrev pub refusedRun : ℕ → ℕ → CRun
 refusedRun n p = record { number = n; place = p; length = 0; first = 0; second = 0; third = 0 }
+
+-- an answer, with the ranges beside it
+abbrev pub answeredInC : Answered → AsciiRanges → CRun
+answeredInC (Ran k) q = wordsC (wordsOf k q)
+answeredInC (Refused r) q = refusedRun (r .number) (r .place)
 
 -- a run by its words
 abbrev pub runInC : Got → CRun

@@ -1,0 +1,87 @@
+-- What the C face answers follows from what the calls say. Assumes nothing.
+use Prim.Native.Nat.{ℕ}
+use native.Mathlib.Omega.{arith}
+use mathlib.Core.Path.{_≡_, refl, ap, sym, _∙_}
+use mathlib.Core.Bool.{Bool, true, false}
+use mathlib.Core.List.{List, [], _∷_}
+use lib.Dec.{eqb}
+use borrow.Author.Needs.{needs}
+use Rattle.refusal.specs.declared.Refusal.{Refusal}
+use Rattle.refusal.specs.Said.{Said, ok, no}
+use Rattle.refusal.specs.Lists.{pick}
+use Rattle.ascii_range.specs.declared.AsciiRanges.{AsciiRanges}
+use Rattle.range_class.specs.declared.AsciiRangeClass.{AsciiRangeClass}
+use Rattle.range_class.specs.declared.RangeClass.{RangeClass}
+use Rattle.range_class.specs.declared.RangeClass.the-variants as answer
+use Rattle.range_class.specs.Class as class
+use Rattle.ascii_run.specs.declared.AsciiRun.{AsciiRun}
+use Rattle.ascii_run.specs.declared.Answered.{Answered}
+use Rattle.ascii_run.specs.declared.Answered.the-variants.{Ran, Refused}
+use Rattle.ascii_run.specs.declared.RunAnswer.{RunAnswer}
+use Rattle.ascii_run.specs.declared.RunWords.{RunWords}
+use Rattle.ascii_run.specs.declared.AsciiRunScan.{AsciiRunScan}
+use Rattle.ascii_run.specs.declared.Scanned.{Scanned}
+use Rattle.ascii_run.specs.declared.Scanned.the-variants.{NoRun, Skipped}
+use Rattle.ascii_run.specs.Shape.{shapeOf, Got, run, refused, answered, Gives}
+use Rattle.ascii_run.specs.Words.{wordsOf}
+use Rattle.ascii_run.specs.Scan.{bit, said, scanSaid}
+use Rattle.ascii_run.proofs.Answers.{given}
+use Rattle.lexer_dfa_c.specs.declared.CClass.{CClass}
+use Rattle.lexer_dfa_c.specs.declared.CRun.{CRun}
+use Rattle.lexer_dfa_c.specs.declared.CScan.{CScan}
+use Rattle.lexer_dfa_c.specs.Answers.{classInC, wordsC, refusedRun, answeredInC, runInC, scanInC, refusedScan, scanGot}
+
+-- a class's number, or its refusal
+module _ {a : RangeClass} (s : Said) where
+  pub class-number : {c : AsciiRangeClass} {n : ℕ} → class.said a ≡ s → a ≡ answer.Class c → n ≡ class.classNumber c → record { number = 0; place = 0; class = n } ≡ classInC s
+  class-number h e f = rw (← h, e, f)
+
+  pub class-refused : {x : Refusal} → class.said a ≡ s → a ≡ answer.Refused x → record { number = x .number; place = x .place; class = 0 } ≡ classInC s
+  class-refused h e = rw (← h, e)
+
+-- a run's words, or its refusal
+module _ {a : Answered} (q : AsciiRanges) where
+  pub words-ran : {k : AsciiRun} {w : RunWords} → w ≡ wordsOf k q → a ≡ Ran k → wordsC w ≡ answeredInC a q
+  words-ran h e = rw (h, e)
+
+  pub words-refused : {x : Refusal} → a ≡ Refused x → refusedRun (x .number) (x .place) ≡ answeredInC a q
+  words-refused e = rw e
+
+pub run-in-c : {q : RunAnswer} {r : CRun} (g : Got) → Gives q g → r ≡ answeredInC (q .answer) (q .ranges) → r ≡ runInC g
+run-in-c (run x) h e = e ∙ (rw (given (run x) h))
+run-in-c (refused n p) h e = e ∙ (rw (given (refused n p) h))
+
+-- how far a run went, or that there is none, or a refusal
+bit-back : (b : Bool) → b ≡ eqb (bit b) 1
+bit-back true = refl
+bit-back false = refl
+
+module _ {s : Scanned} where
+  pub scan-none : s ≡ NoRun → refusedScan 0 0 ≡ scanInC (said s)
+  scan-none e = rw e
+
+  pub scan-skipped : {x : AsciiRunScan} → s ≡ Skipped x → record { number = 0; place = 0; ran = true; bytes = x .bytes; «found_exit» = x .«found_exit» } ≡ scanInC (said s)
+  scan-skipped {x} e = rw e (rw (← bit-back (x .«found_exit»)))
+
+module _ (bs : List ℕ) {q : RunAnswer} where
+  pub scan-run : (g : Got) (s : Scanned) {k : AsciiRun} {r : CScan} → Gives q g → q .answer ≡ Ran k → said s ≡ scanSaid (shapeOf k (q .ranges)) bs → r ≡ scanInC (said s) → r ≡ scanInC (scanGot g bs)
+  scan-run (run x) s {k} h e f i =
+      let j = given (run x) h in
+      let m : x .kind ≡ k = cc in
+      i ∙ (rw (f, ← m, j))
+  scan-run (refused n p) s h e f i =
+      let j = given (refused n p) h in
+      let z : _≡_ {A = ℕ} 0 1 = cc in
+      absurd (omega arith)
+
+  pub scan-refused : (g : Got) {x : Refusal} → Gives q g → q .answer ≡ Refused x → refusedScan (x .number) (x .place) ≡ scanInC (scanGot g bs)
+  scan-refused (run y) h e =
+      let j = given (run y) h in
+      let z : _≡_ {A = ℕ} 0 1 = cc in
+      absurd (omega arith)
+  scan-refused (refused n p) {x} h e =
+      let j = given (refused n p) h in
+      let m : x ≡ record { number = n; place = p } = cc in
+      rw m
+
+pub ruleset calling = (needs, class-number, class-refused, words-ran, words-refused, run-in-c, scan-none, scan-skipped, scan-run, scan-refused)
