@@ -133,7 +133,7 @@ module _ (state : ℕ) (row : List ℕ) where
     pub done : length row ≤ low → record { ranges = ranges; count = count } ≡ upToFour (loopRanges state row)
     unfolding upToFour loopRanges
     done h = let n : length (take count ranges) ≡ count = length-take-le count ranges (omega (arith, g .few, g .long)) in
-      rw (g .whole, ← all-found h, n, le-leb count 4 (g .few), ← g .clear, take-append-drop)
+        rw (g .whole, ← all-found h, n, le-leb count 4 (g .few), ← g .clear, take-append-drop)
 
     -- the symbol at `low` loops, so that a range of one symbol at least starts there
     pub longer : (h : low < length row) → before (exitsAt state) (drop low row) ≡ suc (before (exitsAt state) (drop (low + 1) row))

@@ -158,7 +158,11 @@ fn read_short(word: u32, at: usize) -> RunAnswer
         return or_field((a == 0) & (b == 0) & (c == 0), AsciiRun::Any, at);
     }
     if kind == 2 {
-        return or_field((a < 128) & (b == 0) & (c == 0), AsciiRun::Until1(a as u8), at);
+        return or_field(
+            (a < 128) & (b == 0) & (c == 0),
+            AsciiRun::Until1(a as u8),
+            at,
+        );
     }
     if kind == 3 {
         return or_field(

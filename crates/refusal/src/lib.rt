@@ -9,15 +9,25 @@ pub struct Refusal {
 
 // The refusals by number.
 pub const SHORT: u32 = 1;
+
 pub const TAG: u32 = 2;
+
 pub const FIELD: u32 = 3;
+
 pub const LIMIT: u32 = 4;
+
 pub const LEFT: u32 = 5;
+
 pub const INDEX: u32 = 6;
+
 pub const ROOM: u32 = 7;
+
 pub const STATE: u32 = 8;
+
 pub const NOT_TABLE: u32 = 9;
+
 pub const ORDER: u32 = 10;
+
 pub const TARGETS: u32 = 11;
 
 // No state, no accept, no continuation.
@@ -25,6 +35,7 @@ pub const NONE: u32 = 4294967295;
 
 // A target that is no state: the edge goes to the interpreter, or nowhere.
 pub const ESCAPE_STATE: u16 = 65534;
+
 pub const DEAD_STATE: u16 = 65535;
 
 // The first word of a table.
@@ -32,10 +43,14 @@ pub const SERIALIZED_TAG: u32 = 0x4C440001;
 
 // The limits: words of a table, numbers of its room, transitions and intervals of a list.
 pub const MAX_WORDS: usize = 8192;
+
 pub const ROOM_NUMBERS: usize = 16384;
+
 pub const MAX_TRANSITIONS: usize = 256;
+
 pub const MAX_INTERVALS: usize = 1024;
 
 // Symbols of an ASCII row, and the most ranges that a run keeps.
 pub const ASCII_SYMBOLS: usize = 128;
+
 pub const MAX_RANGES: usize = 4;
