@@ -45,14 +45,14 @@ pub fn next_exit(row: &[u16], state: u16, from: usize) -> usize
 fn next_loop(row: &[u16], state: u16, from: usize) -> usize
     ensures { λ r. ⌜ r ≡ from + before (loopsAt state) (drop from (now (row .entry))) ⌝ }
 {
-    let mut symbol = from;
-    while symbol < row.len() {
-        if row[symbol] == state {
-            return symbol;
+    let mut low = from;
+    while low < row.len() {
+        if row[low] == state {
+            return low;
         }
-        symbol += 1;
+        low += 1;
     }
-    symbol
+    low
 }
 
 fn none() -> AsciiRanges

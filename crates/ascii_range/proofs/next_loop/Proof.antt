@@ -9,10 +9,10 @@ use Rattle.ascii_range.proofs.next_loop.Statement.{statement}
 use Rattle.ascii_range.proofs.next_loop.Tie as tie
 
 abbrev Inv-loop : tie.InvT-loop
-Inv-loop row state from symbol₀ symbol = symbol + before (loopsAt state) (drop symbol row) ≡ from + before (loopsAt state) (drop from row)
+Inv-loop row state from low₀ low = low + before (loopsAt state) (drop low row) ≡ from + before (loopsAt state) (drop from row)
 
 abbrev μ-loop : tie.MeasureT-loop
-μ-loop row state from symbol₀ symbol = length row - symbol
+μ-loop row state from low₀ low = length row - low
 
 pub next-loop-spec : {M : Type 1} → statement M
 next-loop-spec =
