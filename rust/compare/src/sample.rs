@@ -91,11 +91,12 @@ fn class(from: &mut Seeded, out: &mut Vec<u8>) {
 
 /// The words of a run of ranges, one in four with a bit changed.
 fn three_words(from: &mut Seeded) -> [u32; 3] {
-    const TELLING: [&[(u8, u8)]; 4] = [
+    const TELLING: [&[(u8, u8)]; 5] = [
         &[(9, 10), (12, 13), (32, 32)],
         &[(39, 39), (48, 57), (65, 70), (95, 95)],
         &[(36, 36), (65, 90), (95, 95), (97, 122)],
         &[(48, 57), (97, 102)],
+        &[(48, 57), (65, 71)],
     ];
     let mut words = match from.below(3) {
         0 => {
