@@ -1,3 +1,4 @@
 pub mod Loops
 pub mod Checks
 pub mod Scans
+pub mod Maximal

@@ -1,0 +1,3 @@
+pub mod Demand2
+pub mod Examples
+pub mod Unique

@@ -1,0 +1,69 @@
+-- Each public call's contract determines its answer. For it is an equation for the answer, or for what the answer says, and no two
+-- answers say one thing. Assumes nothing.
+use mathlib.Core.Path.{sym, _∙_}
+use Rattle.ascii_range.proofs.next_exit.Reads as next-exit
+use Rattle.ascii_range.proofs.from_self_loops.Reads as from-self-loops
+use Rattle.ascii_range.proofs.from_run.Reads as from-run
+use Rattle.ascii_range.proofs.packed_words.Reads as packed-words
+use Rattle.ascii_range.proofs.scan_scalar.Reads as scan-scalar
+use Rattle.range_class.proofs.class_of_byte.Reads as class-of-byte
+use Rattle.range_class.proofs.class.Reads as class
+use Rattle.range_class.proofs.Classes.{byte-one, said-one}
+use Rattle.ascii_run.proofs.classify.Reads as classify
+use Rattle.ascii_run.proofs.read_serialized.Reads as read-serialized
+use Rattle.ascii_run.proofs.serialized_words.Reads as serialized-words
+use Rattle.ascii_run.proofs.read_alone.Reads as read-alone
+use Rattle.ascii_run.proofs.write_serialized.Reads as write-serialized
+use Rattle.ascii_run.proofs.scan.Reads as scan
+use Rattle.ascii_run.proofs.scan_length.Reads as scan-length
+use Rattle.ascii_run.proofs.Answers.{given}
+use Rattle.ascii_run.proofs.ScanSaid.{scanned-one}
+use Rattle.lexer_dfa.specs.Unique.{Determines, DeterminesPart}
+
+-- ascii_range
+
+pub next-exit-unique : Determines next-exit.Learnt
+next-exit-unique κs a x y e f p q = p ∙ sym q
+
+pub from-self-loops-unique : Determines from-self-loops.Learnt
+from-self-loops-unique κs a x y e f p q = p ∙ sym q
+
+pub from-run-unique : Determines from-run.Learnt
+from-run-unique κs a x y e f p q = p ∙ sym q
+
+pub packed-words-unique : Determines packed-words.Learnt
+packed-words-unique κs a x y e f p q = p ∙ sym q
+
+pub scan-scalar-unique : Determines scan-scalar.Learnt
+scan-scalar-unique κs a x y e f p q = p ∙ sym q
+
+-- range_class
+
+pub class-of-byte-unique : Determines class-of-byte.Learnt
+class-of-byte-unique κs a x y e f p q = byte-one x y (p ∙ sym q)
+
+pub class-unique : Determines class.Learnt
+class-unique κs a x y e f p q = said-one x y (p ∙ sym q)
+
+-- ascii_run
+
+pub classify-unique : Determines classify.Learnt
+classify-unique κs a x y e f p q = given _ p ∙ sym (given _ q)
+
+pub read-serialized-unique : Determines read-serialized.Learnt
+read-serialized-unique κs a x y e f p q = given _ p ∙ sym (given _ q)
+
+pub read-alone-unique : Determines read-alone.Learnt
+read-alone-unique κs a x y e f p q = given _ p ∙ sym (given _ q)
+
+pub serialized-words-unique : Determines serialized-words.Learnt
+serialized-words-unique κs a x y e f p q = p ∙ sym q
+
+pub write-serialized-unique : Determines write-serialized.Learnt
+write-serialized-unique κs a x y e f p q = p ∙ sym q
+
+pub scan-unique : DeterminesPart scan.Learnt
+scan-unique κs a x y e f p q = (p .1 ∙ sym (q .1), p .0 ∙ sym (q .0))
+
+pub scan-length-unique : Determines scan-length.Learnt
+scan-length-unique κs a x y e f p q = scanned-one x y (p ∙ sym q)

@@ -1,0 +1,81 @@
+-- The words in which the demands are stated (document 00, "The demands, as agreed"). Assumes nothing.
+use Prim.Native.Nat.{ℕ, suc, _≤_, _<_}
+use mathlib.Core.Path.{_≡_}
+use mathlib.Core.Bool.{true, _&&_}
+use mathlib.Core.List.{List}
+use lib.Dec.{eqb, ltb}
+use lib.ListN.{length, getD, take}
+use contract.Lifetimes.{Lfts}
+use denote.Ref.{RefT}
+use Rattle.refusal.specs.Lists.{some}
+use Rattle.ascii_range.specs.declared.AsciiRange.{AsciiRange}
+use Rattle.ascii_range.specs.Ranges.{loopsAt, exitsAt, inRanges, ordered}
+use Rattle.ascii_run.specs.declared.Run.{Run}
+use Rattle.ascii_run.specs.declared.RunAnswer.{RunAnswer}
+use Rattle.ascii_run.specs.declared.Scanned.{Scanned}
+use Rattle.ascii_run.specs.declared.Scanned.the-variants.{Skipped}
+use Rattle.ascii_run.specs.Shape.{Shape, none, any, until, ranges}
+use Rattle.ascii_run.proofs.classify.Reads as classify
+use Rattle.ascii_run.proofs.scan.Reads as scan
+use Rattle.ascii_run.proofs.scan_length.Reads as scan-length
+
+-- Demand 2: "Over ASCII-only bytes, a state's run, where it has one, is the longest front part on which it loops."
+
+-- every byte is below 128
+abbrev pub AsciiOnly : List ℕ → Type 0
+AsciiOnly bs = (i : ℕ) → i < length bs → getD bs i 0 < 128
+
+-- the state loops on a byte: the byte's target in the state's row is the state
+abbrev pub LoopsOn : ℕ → List ℕ → ℕ → Type 0
+LoopsOn state row b = getD row b 0 ≡ state
+
+-- the longest front part on which P holds has n bytes: each of them has P, and the next byte, if there is one, has not
+pub record Longest (P : ℕ → Type 0) (bs : List ℕ) (n : ℕ) : Type 0 where
+  pub within : n ≤ length bs
+  pub holds : (i : ℕ) → i < n → P (getD bs i 0)
+  pub stops : n < length bs → P (getD bs n 0) → ⊥
+
+-- two scans of an input hand back that front part of the input itself, and say its length and whether bytes are left
+pub record ScansLongest (P : ℕ → Type 0) (input part : RefT (List ℕ)) (says : Scanned) : Type 0 where
+  pub bytes : ℕ
+  pub longest : Longest P (input .now) bytes
+  pub front : part .now ≡ take bytes (input .now)
+  pub itself : part .ptr ≡ input .ptr
+  pub told : says ≡ Skipped (record { bytes = bytes; «found_exit» = ltb bytes (length (input .now)) })
+
+-- x is what the call may answer by its own contract, at some lifetimes and with some arguments at exit
+abbrev pub ClassifyAnswers : (row : RefT (List ℕ)) (state : ℕ) → RunAnswer → Type 0
+ClassifyAnswers row state x = (κs : Lfts 1) × (e : _) × classify.Learnt κs (row, (state, tt)) x e
+
+abbrev pub ScanAnswers : (run : Run) (input : RefT (List ℕ)) → RefT (List ℕ) → Type 0
+ScanAnswers run input x = (κs : Lfts 1) × (e : _) × scan.Learnt κs (run, (input, tt)) x e
+
+abbrev pub ScanLengthAnswers : (run : Run) (input : RefT (List ℕ)) → Scanned → Type 0
+ScanLengthAnswers run input x = (κs : Lfts 1) × (e : _) × scan-length.Learnt κs (run, (input, tt)) x e
+
+-- Document 01: "symbols not looping on the state are exits. 0 exits give any; 1 to 3 give until, ascending; otherwise the maximal looping ranges if 1 to 4, else none."
+
+-- the exits of a row: exactly its symbols whose target is not the state, each above the one before
+pub record Exits (state : ℕ) (row es : List ℕ) : Type 0 where
+  pub exact : (b : ℕ) → some (eqb b) es ≡ (ltb b (length row) && exitsAt state (getD row b 0))
+  pub ascending : (i : ℕ) → suc i < length es → getD es i 0 < getD es (suc i) 0
+
+-- the maximal looping ranges of a row: they hold exactly its symbols whose target is the state, and each high + 1 is below the next low, so that no two touch
+pub record LoopRanges (state : ℕ) (row : List ℕ) (rs : List AsciiRange) : Type 0 where
+  pub exact : (b : ℕ) → inRanges rs b ≡ (ltb b (length row) && loopsAt state (getD row b 0))
+  pub apart : ordered 0 rs ≡ true
+
+-- n is from low to high
+abbrev pub From : (low high : ℕ) → ℕ → Type 0
+From low high n = (low ≤ n) × (n ≤ high)
+
+-- s is the run that the sentence gives to a row
+pub record Described (state : ℕ) (row : List ℕ) (s : Shape) : Type 0 where
+  pub exits : List ℕ
+  pub looping : List AsciiRange
+  pub are-exits : Exits state row exits
+  pub are-ranges : LoopRanges state row looping
+  pub no-exit : length exits ≡ 0 → s ≡ any
+  pub few-exits : From 1 3 (length exits) → s ≡ until exits
+  pub few-ranges : 3 < length exits → From 1 4 (length looping) → s ≡ ranges looping
+  pub else-none : 3 < length exits → (From 1 4 (length looping) → ⊥) → s ≡ none

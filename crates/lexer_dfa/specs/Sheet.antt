@@ -1,0 +1,60 @@
+-- The ply sheet's examples (document 01, "Ply-sheet examples"): each is a call with what it is given, and what it says. Assumes nothing.
+use Prim.Native.Nat.{ℕ}
+use mathlib.Core.Path.{_≡_}
+use mathlib.Core.List.{List, [], _∷_, map}
+use lib.ListN.{take}
+use Rattle.refusal.specs.Said.{Said, ok, no}
+use Rattle.refusal.specs.Lists.{pick}
+use Rattle.ascii_range.specs.declared.AsciiRange.{AsciiRange}
+use Rattle.ascii_range.specs.Ranges.{inRanges}
+use Rattle.range_class.specs.Class.{upFrom}
+use Rattle.ascii_run.specs.declared.RunWords.{RunWords}
+use Rattle.ascii_run.specs.Shape.{Got, run, refused, gotSaid, shape}
+use Rattle.ascii_run.specs.Classify.{classified}
+use Rattle.ascii_run.specs.Words.{wordsOf}
+use Rattle.ascii_run.specs.Scan.{scanSaid}
+
+-- a call, and what it is given
+pub data Call : Type 0 where
+  -- `classify`: the run of a row at a state, by its kind and its exits
+  classify : (row : List ℕ) (state : ℕ) → Call
+  -- `write_serialized`: the words of that run
+  words : (row : List ℕ) (state : ℕ) → Call
+  -- `scan_length`: how many bytes that run skips, and 1 where an exit was found, else 0
+  scan : (row : List ℕ) (state : ℕ) (bytes : List ℕ) → Call
+
+-- the words of a run, as many as it has
+abbrev pub wordList : RunWords → List ℕ
+wordList w = take (w .length) (w .first ∷ w .second ∷ w .third ∷ [])
+
+-- what is said of the run that classification gave, or the refusal that it gave
+abbrev pub wordsSaid : Got → Said
+wordsSaid (run r) = ok (wordList (wordsOf (r .kind) (r .ranges)))
+wordsSaid (refused n p) = no n p
+
+abbrev pub scannedSaid : List ℕ → Got → Said
+scannedSaid bytes (run r) = scanSaid (shape r) bytes
+scannedSaid bytes (refused n p) = no n p
+
+-- what a call says, by the definitions that the contracts cite
+abbrev pub saidBy : Call → Said
+saidBy (classify row state) = gotSaid (classified state row)
+saidBy (words row state) = wordsSaid (classified state row)
+saidBy (scan row state bytes) = scannedSaid bytes (classified state row)
+
+-- an example: the call says this
+infix 10 _says_
+pub data Example : Type 0 where
+  _says_ : Call → Said → Example
+
+abbrev pub Holds : Example → Type 0
+Holds (call says answer) = saidBy call ≡ answer
+
+-- every example of a list holds
+abbrev pub Right : List Example → Type 0
+Right [] = Unit {0}
+Right (x ∷ xs) = Holds x × Right xs
+
+-- a row of 128 targets: the state on the symbols of some ranges, and dead on all others
+unfoldable pub rowOn : List AsciiRange → ℕ → List ℕ
+rowOn looping state = map (λ symbol. pick (inRanges looping symbol) state 65535) (upFrom 0 128)
