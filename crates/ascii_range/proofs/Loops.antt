@@ -1,20 +1,20 @@
 -- The maximal looping ranges of a row, found from left to right. Assumes nothing.
 use Prim.Native.Nat.{ℕ, zero, suc, _+_, _-_, _≤_, _<_}
-use native.Mathlib.Nat.{not-suc-le-zero, zero-add, suc-add, add-zero, add-suc}
+use native.Mathlib.Nat.{add-zero}
 use native.Mathlib.Numerals.{add-one}
 use native.Mathlib.Omega.{arith}
 use mathlib.Core.Path.{_≡_, refl, ap, sym, _∙_}
-use mathlib.Core.Bool.{Bool, true, false, not, false≢true}
+use mathlib.Core.Bool.{Bool, true, false, not}
 use mathlib.Core.List.{List, [], _∷_, _++_, append-assoc, append-nil}
 use lib.Dec.{eqb}
-use lib.ListN.{length, getD, take, drop, set, replicate, length-append, length-set, length-drop, drop-of-length-le, take-append-drop}
-use lib.Seq.{drop-nil, drop-drop, take-suc-set, drop-set-lt, length-take-le, drop-cons}
-use borrow.Author.Tests.{eq-eqb, ne-eqb, le-leb, lt-leb, not-true, not-false}
+use lib.ListN.{length, take, drop, set, replicate, length-append, length-set, length-drop, drop-of-length-le, take-append-drop}
+use lib.Seq.{drop-drop, take-suc-set, drop-set-lt, length-take-le}
+use borrow.Author.Tests.{eq-eqb, ne-eqb, le-leb, lt-leb}
 use borrow.Author.Needs.{needs}
 use mir.Val.{Fits}
 use mir.Syntax.{w8}
 use Rattle.refusal.specs.Lists.{pick, before}
-use Rattle.refusal.proofs.Lists.{before-≤, before-stop, before-pass, before-true, before-false, before-next, before-here}
+use Rattle.refusal.proofs.Lists.{before-≤, before-pass, before-true, before-false, before-next, before-here, before-skip}
 use Rattle.ascii_range.specs.declared.AsciiRange.{AsciiRange}
 use Rattle.ascii_range.specs.declared.AsciiRanges.{AsciiRanges}
 use Rattle.ascii_range.specs.Ranges.{range, loopsAt, exitsAt, joined, rangesFrom, noRanges, upToFour, loopRanges}
@@ -69,11 +69,7 @@ module _ (state : ℕ) where
 
   -- symbols that do not loop are passed over
   pub ranges-skip : (k n : ℕ) (ts : List ℕ) → n ≡ before (loopsAt state) ts → rangesFrom state k ts ≡ rangesFrom state (k + n) (drop n ts)
-  ranges-skip k n [] h = rw (drop-nil, ranges-none, ranges-none)
-  ranges-skip k n (t ∷ ts) h = cases (loopsAt state t) refl (ranges-skip (suc k) (before (loopsAt state) ts) ts refl) where
-    cases : (b : Bool) → loopsAt state t ≡ b → rangesFrom state (suc k) ts ≡ rangesFrom state (suc k + before (loopsAt state) ts) (drop (before (loopsAt state) ts) ts) → rangesFrom state k (t ∷ ts) ≡ rangesFrom state (k + n) (drop n (t ∷ ts))
-    cases true e r = rw (h ∙ before-true (loopsAt state) ts e) (rw add-zero)
-    cases false e r = rw (h ∙ before-false (loopsAt state) ts e, add-suc, ranges-exit k t ts e) (r ∙ (rw suc-add))
+  ranges-skip = before-skip (loopsAt state) (rangesFrom state) (λ k. ranges-none k ∙ sym (ranges-none 0)) ranges-exit
 
   -- behind a symbol that does not loop no range starts at it
   exit-starts : (k : ℕ) (ts : List ℕ) → before (exitsAt state) ts ≡ 0 → StartsFrom (suc k) (rangesFrom state k ts)

@@ -1,12 +1,12 @@
 -- The scan by four ranges, of which some may be unused. Assumes nothing.
-use Prim.Native.Nat.{ℕ, zero, suc, _+_, _≤_, _<_}
+use Prim.Native.Nat.{ℕ, zero, suc}
 use native.Mathlib.Omega.{arith}
 use mathlib.Core.Path.{_≡_, refl, ap, sym, _∙_}
-use mathlib.Core.Bool.{Bool, true, false, not, _&&_, _||_, or-false, or-assoc, and-false}
+use mathlib.Core.Bool.{Bool, false, not, _||_, or-false, or-assoc, and-false}
 use mathlib.Core.List.{List, [], _∷_, map}
 use lib.Dec.{leb, ltb, leb·suc-zero}
 use lib.ListN.{length, getD, take, length-map}
-use borrow.Author.Tests.{lt-ltb, le-ltb}
+use borrow.Author.Tests.{lt-ltb}
 use Rattle.refusal.specs.Lists.{before}
 use Rattle.refusal.proofs.Lists.{before-same}
 use Rattle.ascii_range.proofs.AsciiRange as AsciiRange-type

@@ -1,29 +1,25 @@
 -- What the answers say, case by case, for the functions that make them. Assumes nothing.
-use Prim.Native.Nat.{ℕ, zero, suc, _+_, _*_, _-_, _/_, _%_, _≤_, _<_}
+use Prim.Native.Nat.{ℕ, _≤_}
 use native.Mathlib.Omega.{arith}
 use mathlib.Core.Path.{_≡_, refl, ap, sym, _∙_}
 use mathlib.Core.Bool.{Bool, true, false, _&&_, and-false}
-use mathlib.Core.List.{List, [], _∷_}
-use lib.Dec.{eqb, leb, ltb}
-use lib.ListN.{length, getD, take, drop}
+use mathlib.Core.List.{List}
+use lib.Dec.{eqb, leb}
+use lib.ListN.{length, getD}
 use borrow.Author.Needs.{needs}
-use borrow.Author.Tests.{eq-eqb, ne-eqb, le-leb, lt-leb, lt-ltb, le-ltb}
-use Rattle.refusal.specs.declared.Refusal.{Refusal}
-use Rattle.refusal.specs.Said.{Said, ok, no, SHORT, FIELD}
-use Rattle.refusal.specs.Lists.{pick, every}
+use borrow.Author.Tests.{le-leb}
+use Rattle.refusal.specs.Said.{Said, ok, no}
+use Rattle.refusal.specs.Lists.{pick}
 use Rattle.ascii_range.specs.declared.AsciiRange.{AsciiRange}
 use Rattle.ascii_range.specs.declared.AsciiRanges.{AsciiRanges}
-use Rattle.ascii_range.specs.declared.PackedRanges.{PackedRanges}
-use Rattle.ascii_range.specs.Ranges.{noRanges, upToFour, loopRanges, rangesOfRun}
+use Rattle.ascii_range.specs.Ranges.{upToFour}
 use Rattle.ascii_run.specs.declared.AsciiRun.{AsciiRun}
 use Rattle.ascii_run.specs.declared.AsciiRun.the-variants.{None, Any, Until1, Until2, Until3, Ranges}
-use Rattle.ascii_run.specs.declared.Run.{Run}
 use Rattle.ascii_run.specs.declared.Answered.{Answered}
 use Rattle.ascii_run.specs.declared.Answered.the-variants.{Ran, Refused}
 use Rattle.ascii_run.specs.declared.RunAnswer.{RunAnswer}
-use Rattle.ascii_run.specs.Shape.{Shape, none, any, until, ranges, plain, held, Got, run, refused, said, gotSaid, gotRanges, answered, kindSaid, Gives}
+use Rattle.ascii_run.specs.Shape.{none, ranges, plain, held, Got, run, refused, said, answered, Gives}
 use Rattle.ascii_run.specs.Classify.{byRanges}
-use Rattle.ascii_run.specs.Words.{isZero, isAscii, orField, shortRun, kindOf, bytesOf, rangesRun, packedAt, readAt, sizeOf, aloneIn, readAlone}
 
 -- An answer is the one for what was got exactly when it says so, with the ranges beside it.
 pub gives : {r : RunAnswer} (g : Got) → r ≡ answered g → Gives r g

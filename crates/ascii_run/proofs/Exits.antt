@@ -1,18 +1,17 @@
 -- The exits of a row, found from left to right, and the classification that they give. Assumes nothing.
-use Prim.Native.Nat.{ℕ, zero, suc, _+_, _≤_, _<_}
-use native.Mathlib.Nat.{add-zero, add-suc, suc-add}
+use Prim.Native.Nat.{ℕ, suc, _+_, _≤_, _<_}
 use native.Mathlib.Numerals.{add-one}
 use native.Mathlib.Omega.{arith}
-use mathlib.Core.Path.{_≡_, refl, ap, sym, _∙_}
-use mathlib.Core.Bool.{Bool, true, false}
+use mathlib.Core.Path.{_≡_, refl, sym, _∙_}
+use mathlib.Core.Bool.{true, false}
 use mathlib.Core.List.{List, [], _∷_}
 use lib.ListN.{length, getD, drop, drop-of-length-le}
-use lib.Seq.{drop-cons, drop-drop, drop-nil}
+use lib.Seq.{drop-cons, drop-drop}
 use borrow.Author.Needs.{needs}
 use borrow.Author.Tests.{eq-eqb, ne-eqb, lt-leb}
 use Rattle.refusal.specs.Said.{FIELD}
-use Rattle.refusal.specs.Lists.{pick, before}
-use Rattle.refusal.proofs.Lists.{before-true, before-false, before-next, before-here}
+use Rattle.refusal.specs.Lists.{before}
+use Rattle.refusal.proofs.Lists.{before-next, before-here, before-skip}
 use Rattle.ascii_range.specs.Ranges.{exitsAt, rangesFrom, loopRanges}
 use Rattle.ascii_run.specs.declared.AsciiRun.the-variants.{Any, Until1, Until2, Until3}
 use Rattle.ascii_run.specs.declared.RunAnswer.{RunAnswer}
@@ -35,11 +34,7 @@ module _ (state : ℕ) where
 
   -- symbols that loop are passed over
   exits-skip : (k n : ℕ) (ts : List ℕ) → n ≡ before (exitsAt state) ts → exitsFrom state k ts ≡ exitsFrom state (k + n) (drop n ts)
-  exits-skip k n [] h = rw (drop-nil, exits-nil, exits-nil)
-  exits-skip k n (t ∷ ts) h = cases (exitsAt state t) refl (exits-skip (suc k) (before (exitsAt state) ts) ts refl) where
-    cases : (b : Bool) → exitsAt state t ≡ b → exitsFrom state (suc k) ts ≡ exitsFrom state (suc k + before (exitsAt state) ts) (drop (before (exitsAt state) ts) ts) → exitsFrom state k (t ∷ ts) ≡ exitsFrom state (k + n) (drop n (t ∷ ts))
-    cases true e r = rw (h ∙ before-true (exitsAt state) ts e) (rw add-zero)
-    cases false e r = rw (h ∙ before-false (exitsAt state) ts e, add-suc, exits-past k t ts e) (r ∙ (rw suc-add))
+  exits-skip = before-skip (exitsAt state) (exitsFrom state) (λ k. exits-nil k ∙ sym (exits-nil 0)) exits-past
 
   module _ (row : List ℕ) (i : ℕ) {e : ℕ} (h : e ≡ i + before (exitsAt state) (drop i row)) where
     moved : exitsFrom state i (drop i row) ≡ exitsFrom state e (drop e row)

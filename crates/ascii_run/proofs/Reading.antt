@@ -1,28 +1,27 @@
 -- The reading of a run's words, by the tests that the code makes in turn. `r` is the code's answer. Assumes nothing.
-use Prim.Native.Nat.{ℕ, zero, suc, _+_, _*_, _-_, _/_, _%_, _≤_, _<_}
+use Prim.Native.Nat.{ℕ, _+_, _*_, _-_, _/_, _%_, _≤_, _<_}
 use native.Mathlib.Omega.{arith}
-use mathlib.Core.Path.{_≡_, refl, ap, sym, _∙_}
+use mathlib.Core.Path.{_≡_, ap, sym, _∙_}
 use mathlib.Core.Bool.{Bool, true, false, _&&_, and-true, and-assoc}
-use mathlib.Core.List.{List, [], _∷_}
-use lib.Dec.{eqb, leb, ltb}
+use mathlib.Core.List.{List}
+use lib.Dec.{eqb, ltb}
 use lib.ListN.{length, getD}
 use borrow.Author.Needs.{needs}
 use borrow.Author.Tests.{eq-eqb, ne-eqb, le-leb, lt-leb, lt-ltb, le-ltb}
 use Rattle.refusal.specs.declared.Refusal.{Refusal}
 use Rattle.refusal.specs.Said.{SHORT, FIELD}
-use Rattle.refusal.specs.Lists.{pick, every}
+use Rattle.refusal.specs.Lists.{every}
 use Rattle.ascii_range.specs.declared.AsciiRanges.{AsciiRanges}
 use Rattle.ascii_range.specs.declared.PackedRanges.{PackedRanges}
 use Rattle.ascii_range.specs.Ranges.{rangesOfRun, packedOf}
 use Rattle.ascii_run.specs.declared.AsciiRun.{AsciiRun}
 use Rattle.ascii_run.specs.declared.AsciiRun.the-variants.{None, Any, Until1, Until2, Until3, Ranges}
-use Rattle.ascii_run.specs.declared.Answered.{Answered}
 use Rattle.ascii_run.specs.declared.Answered.the-variants.{Ran, Refused}
 use Rattle.ascii_run.specs.declared.Run.{Run}
 use Rattle.ascii_run.specs.declared.RunAnswer.{RunAnswer}
 use Rattle.ascii_run.specs.declared.RunWords.{RunWords}
 use Rattle.ascii_run.specs.Shape.{plain, held, Got, run, refused, answered, Gives}
-use Rattle.ascii_run.specs.Words.{isZero, isAscii, orField, shortRun, kindOf, bytesOf, rangesRun, packedAt, readAt, sizeOf, aloneIn, readAlone, oneWord, wordsOf}
+use Rattle.ascii_run.specs.Words.{orField, shortRun, kindOf, bytesOf, rangesRun, readAt, sizeOf, aloneIn, oneWord, wordsOf}
 use Rattle.ascii_run.proofs.Answers.{gives, given}
 
 module _ {r : RunAnswer} where

@@ -1,25 +1,23 @@
 -- The scans by a run, kind by kind. Assumes nothing.
-use Prim.Native.Nat.{ℕ, zero, suc, _+_, _≤_, _<_}
-use native.Mathlib.Omega.{arith}
-use mathlib.Core.Path.{_≡_, refl, ap, sym, _∙_}
+use Prim.Native.Nat.{ℕ}
+use mathlib.Core.Path.{_≡_, refl, sym, _∙_}
 use mathlib.Core.Bool.{Bool, true, false, _||_, or-false, or-assoc, false≢true}
 use mathlib.Core.List.{List, [], _∷_}
-use lib.Dec.{eqb, ltb}
-use lib.ListN.{length, getD, take}
+use lib.Dec.{eqb}
+use lib.ListN.{length, take}
 use borrow.Author.Needs.{needs}
 use borrow.Author.Tests.{eq-eqb, ne-eqb}
 use lib.Seq.{length-take-le}
 use Rattle.refusal.specs.Said.{ok}
-use Rattle.refusal.specs.Lists.{pick, some, before}
+use Rattle.refusal.specs.Lists.{some, before}
 use Rattle.refusal.proofs.Lists.{searching, before-≤, before-never, before-always, before-same}
 use Rattle.ascii_range.specs.declared.AsciiRanges.{AsciiRanges}
 use Rattle.ascii_range.specs.Ranges.{outside, listed}
 use Rattle.ascii_run.specs.declared.AsciiRun.{AsciiRun}
 use Rattle.ascii_run.specs.declared.AsciiRun.the-variants.{None, Any, Until1, Until2, Until3, Ranges}
-use Rattle.ascii_run.specs.declared.Run.{Run}
 use Rattle.ascii_run.specs.declared.Scanned.{Scanned}
 use Rattle.ascii_run.specs.declared.Scanned.the-variants.{NoRun}
-use Rattle.ascii_run.specs.Shape.{Shape, none, any, until, ranges, shape, shapeOf}
+use Rattle.ascii_run.specs.Shape.{Shape, none, any, until, ranges, shapeOf}
 use Rattle.ascii_run.specs.Scan.{stops, skipped, said, isNone, skippedSaid, scanSaid}
 
 -- The tests of one, two and three exits.

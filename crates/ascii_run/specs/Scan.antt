@@ -9,7 +9,6 @@ use Rattle.refusal.specs.Lists.{pick, some, before}
 use Rattle.ascii_range.specs.Ranges.{outside}
 use Rattle.ascii_run.specs.declared.AsciiRun.{AsciiRun}
 use Rattle.ascii_run.specs.declared.AsciiRun.the-variants.{None, Any, Until1, Until2, Until3, Ranges}
-use Rattle.ascii_run.specs.declared.AsciiRunScan.{AsciiRunScan}
 use Rattle.ascii_run.specs.declared.Scanned.{Scanned}
 use Rattle.ascii_run.specs.declared.Scanned.the-variants.{NoRun, Skipped}
 use Rattle.ascii_run.specs.Shape.{Shape, none, any, until, ranges}

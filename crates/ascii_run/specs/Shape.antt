@@ -2,7 +2,6 @@
 use Prim.Native.Nat.{ℕ}
 use mathlib.Core.List.{List, [], _∷_}
 use mathlib.Core.Path.{_≡_}
-use Rattle.refusal.specs.declared.Refusal.{Refusal}
 use Rattle.refusal.specs.Said.{Said, ok, no}
 use Rattle.ascii_range.specs.declared.AsciiRange.{AsciiRange}
 use Rattle.ascii_range.specs.declared.AsciiRanges.{AsciiRanges}

@@ -13,7 +13,7 @@ use Rattle.ascii_run.specs.declared.AsciiRun.{AsciiRun}
 use Rattle.ascii_run.specs.declared.AsciiRun.the-variants.{None, Any, Until1, Until2, Until3, Ranges}
 use Rattle.ascii_run.specs.declared.Run.{Run}
 use Rattle.ascii_run.specs.declared.RunWords.{RunWords}
-use Rattle.ascii_run.specs.Shape.{Shape, none, any, until, plain, held, Got, run, refused}
+use Rattle.ascii_run.specs.Shape.{none, any, until, held, Got, run, refused}
 
 abbrev pub isZero : ℕ → Bool
 isZero x = eqb x 0

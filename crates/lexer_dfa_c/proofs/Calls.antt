@@ -1,14 +1,13 @@
 -- What the C face answers follows from what the calls say. Assumes nothing.
 use Prim.Native.Nat.{ℕ}
 use native.Mathlib.Omega.{arith}
-use mathlib.Core.Path.{_≡_, refl, ap, sym, _∙_}
+use mathlib.Core.Path.{_≡_, refl, _∙_}
 use mathlib.Core.Bool.{Bool, true, false}
-use mathlib.Core.List.{List, [], _∷_}
+use mathlib.Core.List.{List}
 use lib.Dec.{eqb}
 use borrow.Author.Needs.{needs}
 use Rattle.refusal.specs.declared.Refusal.{Refusal}
-use Rattle.refusal.specs.Said.{Said, ok, no}
-use Rattle.refusal.specs.Lists.{pick}
+use Rattle.refusal.specs.Said.{Said}
 use Rattle.ascii_range.specs.declared.AsciiRanges.{AsciiRanges}
 use Rattle.range_class.specs.declared.AsciiRangeClass.{AsciiRangeClass}
 use Rattle.range_class.specs.declared.RangeClass.{RangeClass}
@@ -22,11 +21,10 @@ use Rattle.ascii_run.specs.declared.RunWords.{RunWords}
 use Rattle.ascii_run.specs.declared.AsciiRunScan.{AsciiRunScan}
 use Rattle.ascii_run.specs.declared.Scanned.{Scanned}
 use Rattle.ascii_run.specs.declared.Scanned.the-variants.{NoRun, Skipped}
-use Rattle.ascii_run.specs.Shape.{shapeOf, Got, run, refused, answered, Gives}
+use Rattle.ascii_run.specs.Shape.{shapeOf, Got, run, refused, Gives}
 use Rattle.ascii_run.specs.Words.{wordsOf}
 use Rattle.ascii_run.specs.Scan.{bit, said, scanSaid}
 use Rattle.ascii_run.proofs.Answers.{given}
-use Rattle.lexer_dfa_c.specs.declared.CClass.{CClass}
 use Rattle.lexer_dfa_c.specs.declared.CRun.{CRun}
 use Rattle.lexer_dfa_c.specs.declared.CScan.{CScan}
 use Rattle.lexer_dfa_c.specs.Answers.{classInC, wordsC, refusedRun, answeredInC, runInC, scanInC, refusedScan, scanGot}

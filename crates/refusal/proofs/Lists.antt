@@ -1,6 +1,6 @@
 -- Laws of `before`, `some` and `every`, over any test. Assumes nothing.
 use Prim.Native.Nat.{ℕ, zero, suc, _+_, _≤_, _<_, zero-le}
-use native.Mathlib.Nat.{add-zero}
+use native.Mathlib.Nat.{add-zero, add-suc, suc-add}
 use native.Mathlib.Numerals.{add-one}
 use native.Mathlib.Omega.{arith}
 use mathlib.Core.Path.{_≡_, refl, ap, sym, _∙_}
@@ -78,6 +78,15 @@ module _ (p : ℕ → Bool) where
 
   pub ends : (xs : List ℕ) (i : ℕ) {n : ℕ} → length xs ≤ i → i + before p (drop i xs) ≡ n → i ≡ n
   ends xs i h a = omega (arith, before-end xs i h)
+
+-- what is made of a list whose places are counted from k, where an element at which the test fails makes nothing: the search may come first
+pub before-skip : {A : Type 0} (p : ℕ → Bool) (f : ℕ → List ℕ → A) → ((k : ℕ) → f k [] ≡ f 0 []) → ((k x : ℕ) (xs : List ℕ) → p x ≡ false → f k (x ∷ xs) ≡ f (suc k) xs) →
+    (k n : ℕ) (xs : List ℕ) → n ≡ before p xs → f k xs ≡ f (k + n) (drop n xs)
+before-skip p f z s k n [] h = rw drop-nil (z k ∙ sym (z (k + n)))
+before-skip p f z s k n (x ∷ xs) h = cases (p x) refl (before-skip p f z s (suc k) (before p xs) xs refl) where
+  cases : (t : Bool) → p x ≡ t → f (suc k) xs ≡ f (suc k + before p xs) (drop (before p xs) xs) → f k (x ∷ xs) ≡ f (k + n) (drop n (x ∷ xs))
+  cases true e r = rw (h ∙ before-true p {x = x} xs e) (rw add-zero)
+  cases false e r = rw (h ∙ before-false p {x = x} xs e, add-suc, s k x xs e) (r ∙ (rw suc-add))
 
 -- a test that never holds, and one that always does
 pub before-never : (p : ℕ → Bool) → ((x : ℕ) → p x ≡ false) → (xs : List ℕ) → before p xs ≡ length xs

@@ -1,6 +1,6 @@
 -- Words on lists of numbers that the definitions of all crates share.
 use Prim.Native.Nat.{ℕ, zero, suc}
-use mathlib.Core.Bool.{Bool, true, false, cond, _&&_, _||_}
+use mathlib.Core.Bool.{Bool, true, false, _&&_, _||_}
 use mathlib.Core.List.{List, [], _∷_}
 
 -- the first where the test holds, the second where it does not

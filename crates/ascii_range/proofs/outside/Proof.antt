@@ -1,14 +1,7 @@
 use Rattle.ascii_range.proofs.Scans.{is-outside}
-use native.Mathlib.Omega.{arith}
-use Prim.Native.Nat.{ℕ, _≤_, _<_, _-_, _+_, _*_}
-use mathlib.Core.Path.{_≡_, refl, ap, sym, _∙_}
-use lib.ListN.{length, getD, take, drop}
 use borrow.Author.Needs.{needs}
 use Rattle.ascii_range.proofs.outside.Statement.{statement}
 use Rattle.ascii_range.proofs.outside.Tie as tie
-use Rattle.ascii_range.proofs.outside.Reads as reads
-use Rattle.ascii_range.proofs.outside.Lts as lts
-use Rattle.ascii_range.proofs.holds.Reads as holds-reads
 
 -- src/lib.rt:224:7
 holds-requires : tie.Need-holds-requires

@@ -2,16 +2,11 @@ use Rattle.refusal.specs.Lists.{before}
 use mathlib.Core.List.{[], _∷_}
 use Rattle.ascii_range.specs.Ranges.{outside}
 use Rattle.refusal.proofs.Lists.{searching}
-use borrow.Author.Needs.{needs}
-use native.Mathlib.Omega.{arith}
-use Prim.Native.Nat.{ℕ, _≤_, _<_, _-_, _+_, _*_}
-use mathlib.Core.Path.{_≡_, refl, ap, sym, _∙_}
-use lib.ListN.{length, getD, take, drop}
+use Prim.Native.Nat.{_-_, _+_}
+use mathlib.Core.Path.{_≡_}
+use lib.ListN.{length, drop}
 use Rattle.ascii_range.proofs.scan_four.Statement.{statement}
 use Rattle.ascii_range.proofs.scan_four.Tie as tie
-use Rattle.ascii_range.proofs.scan_four.Reads as reads
-use Rattle.ascii_range.proofs.scan_four.Lts as lts
-use Rattle.ascii_range.proofs.outside.Reads as outside-reads
 
 abbrev Inv-loop : tie.InvT-loop
 Inv-loop a b c d input i₀ i = i + before (outside (a ∷ b ∷ c ∷ d ∷ [])) (drop i input) ≡ before (outside (a ∷ b ∷ c ∷ d ∷ [])) input

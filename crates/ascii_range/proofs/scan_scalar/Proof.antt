@@ -1,16 +1,8 @@
 use Rattle.ascii_range.proofs.Scans.{scan-used}
 use Rattle.ascii_range.proofs.Scans.{four-ranges}
-use native.Mathlib.Omega.{arith}
-use Prim.Native.Nat.{ℕ, _≤_, _<_, _-_, _+_, _*_}
-use mathlib.Core.Path.{_≡_, refl, ap, sym, _∙_}
-use lib.ListN.{length, getD, take, drop}
 use borrow.Author.Needs.{needs}
 use Rattle.ascii_range.proofs.scan_scalar.Statement.{statement}
 use Rattle.ascii_range.proofs.scan_scalar.Tie as tie
-use Rattle.ascii_range.proofs.scan_scalar.Reads as reads
-use Rattle.ascii_range.proofs.scan_scalar.Lts as lts
-use Rattle.ascii_range.proofs.scan_four.Reads as scan-four-reads
-use Rattle.ascii_range.proofs.used.Reads as used-reads
 
 -- src/lib.rt:253:18
 array-copy-out-used : tie.Need-array-copy-out-used
