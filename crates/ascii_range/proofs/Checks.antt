@@ -3,7 +3,7 @@ use Prim.Native.Nat.{ℕ, _+_, _≤_, _<_, _%_, _/_}
 use native.Mathlib.Numerals.{add-one}
 use native.Mathlib.Omega.{arith}
 use mathlib.Core.Path.{_≡_, _∙_}
-use mathlib.Core.Bool.{Bool, true, false, _&&_}
+use mathlib.Core.Bool.{Bool, true, false}
 use mathlib.Core.List.{List, _∷_}
 use lib.ListN.{length, getD, take, drop, drop-of-length-le}
 use lib.Seq.{drop-cons, length-take-le, getD-take}
@@ -65,13 +65,17 @@ module _ (count : ℕ) (rs : List AsciiRange) {r : AsciiRanges} where
   unfolding checked goodRanges
   checked-many e l h = e ∙ (rw (le-leb 1 count l, lt-leb count 4 h))
 
-  pub checked-bad : {x y : Bool} → r ≡ noRanges → 1 ≤ count → count ≤ 4 → x ≡ ordered 0 (take count rs) → y ≡ unused (drop count rs) → (x && y) ≡ false → r ≡ checked count rs
+  pub checked-loose : {x : Bool} → r ≡ noRanges → 1 ≤ count → count ≤ 4 → x ≡ ordered 0 (take count rs) → x ≡ false → r ≡ checked count rs
   unfolding checked goodRanges
-  checked-bad e l h o u t = e ∙ (rw (le-leb 1 count l, le-leb count 4 h, ← o, ← u, t))
+  checked-loose e l h o x = e ∙ (rw (le-leb 1 count l, le-leb count 4 h, ← o, x))
 
-pub checked-good : (count : ℕ) (rs : List AsciiRange) {x y : Bool} → 1 ≤ count → count ≤ 4 → x ≡ ordered 0 (take count rs) → y ≡ unused (drop count rs) → (x && y) ≡ true → record { ranges = rs; count = count } ≡ checked count rs
+  pub checked-filled : {x y : Bool} → r ≡ noRanges → 1 ≤ count → count ≤ 4 → x ≡ ordered 0 (take count rs) → x ≡ true → y ≡ unused (drop count rs) → y ≡ false → r ≡ checked count rs
+  unfolding checked goodRanges
+  checked-filled e l h o x u y = e ∙ (rw (le-leb 1 count l, le-leb count 4 h, ← o, x, ← u, y))
+
+pub checked-good : (count : ℕ) (rs : List AsciiRange) {x y : Bool} → 1 ≤ count → count ≤ 4 → x ≡ ordered 0 (take count rs) → x ≡ true → y ≡ unused (drop count rs) → y ≡ true → record { ranges = rs; count = count } ≡ checked count rs
 unfolding checked goodRanges
-checked-good count rs l h o u t = rw (le-leb 1 count l, le-leb count 4 h, ← o, ← u, t)
+checked-good count rs l h o x u y = rw (le-leb 1 count l, le-leb count 4 h, ← o, x, ← u, y)
 
 -- The three words of a kind-5 run.
 module _ (kind : ℕ) (w : PackedRanges) {r : AsciiRanges} where
@@ -87,4 +91,4 @@ module _ (kind : ℕ) (w : PackedRanges) {r : AsciiRanges} where
   unfolding rangesOfRun
   run-ranges e h l = e ∙ (rw (eq-eqb (kind % 256) 5 h, le-leb kind 65535 l))
 
-pub ruleset checking = (needs, length-unmapped, ordered-turn, ordered-stop, ordered-done, unused-turn, unused-stop, unused-done, checked-few, checked-many, checked-bad, checked-good, run-other, run-upper, run-ranges)
+pub ruleset checking = (needs, length-unmapped, ordered-turn, ordered-stop, ordered-done, unused-turn, unused-stop, unused-done, checked-few, checked-many, checked-loose, checked-filled, checked-good, run-other, run-upper, run-ranges)

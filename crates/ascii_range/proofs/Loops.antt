@@ -14,7 +14,7 @@ use borrow.Author.Needs.{needs}
 use mir.Val.{Fits}
 use mir.Syntax.{w8}
 use Rattle.refusal.specs.Lists.{pick, before}
-use Rattle.refusal.proofs.Lists.{before-≤, before-pass, before-true, before-false, before-next, before-here, before-skip}
+use Rattle.refusal.proofs.Lists.{before-≤, before-pass, before-true, before-false, before-next, before-here, search-first}
 use Rattle.ascii_range.specs.declared.AsciiRange.{AsciiRange}
 use Rattle.ascii_range.specs.declared.AsciiRanges.{AsciiRanges}
 use Rattle.ascii_range.specs.Ranges.{range, loopsAt, exitsAt, joined, rangesFrom, noRanges, upToFour, loopRanges}
@@ -69,7 +69,7 @@ module _ (state : ℕ) where
 
   -- symbols that do not loop are passed over
   pub ranges-skip : (k n : ℕ) (ts : List ℕ) → n ≡ before (loopsAt state) ts → rangesFrom state k ts ≡ rangesFrom state (k + n) (drop n ts)
-  ranges-skip = before-skip (loopsAt state) (rangesFrom state) (λ k. ranges-none k ∙ sym (ranges-none 0)) ranges-exit
+  ranges-skip = search-first (loopsAt state) (rangesFrom state) (λ k. ranges-none k ∙ sym (ranges-none 0)) ranges-exit
 
   -- behind a symbol that does not loop no range starts at it
   exit-starts : (k : ℕ) (ts : List ℕ) → before (exitsAt state) ts ≡ 0 → StartsFrom (suc k) (rangesFrom state k ts)

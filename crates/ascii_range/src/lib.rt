@@ -1,10 +1,10 @@
 // Ranges of ASCII bytes: their checks, their two packed words, the ranges on which a row loops, their class, and the scan by them.
 // What the Rust calls `Option<AsciiRanges>` is here an `AsciiRanges` whose count is 0 where there is none: a good list has 1 to 4.
 ghost use mathlib.Core.Path.{_≡_};
-ghost use Prim.Native.Nat.{_+_, _≤_, _<_};
-ghost use lib.ListN.{drop, take};
+ghost use Prim.Native.Nat.{_+_, _≤_, _<_, min};
+ghost use lib.ListN.{length, drop, take};
 ghost use mathlib.Core.List.{[], _∷_};
-ghost use Rattle.refusal.specs.Lists.{before};
+ghost use Rattle.refusal.specs.Lists.{pick, before};
 ghost use Rattle.ascii_range.specs.Ranges.{loopsAt, exitsAt, noRanges, upToFour, loopRanges, ordered, isZero, unused, checked, rangeIn, unpacked, halfOf, packedOf, rangesOfRun, follows, inRange, outside, listed, usedIf};
 use refusal::ASCII_SYMBOLS;
 use refusal::MAX_RANGES;
@@ -155,8 +155,12 @@ fn new(count: u8, ranges: [AsciiRange; 4]) -> AsciiRanges
     if MAX_RANGES < n {
         return none();
     }
-    if ordered(ranges, n) & unused(ranges, n) {
-        return AsciiRanges { ranges, count };
+    // One test after the other: the compiler drops the first answer before it makes the second.
+    if ordered(ranges, n) {
+        if unused(ranges, n) {
+            return AsciiRanges { ranges, count };
+        }
+        return none();
     }
     none()
 }
@@ -218,14 +222,15 @@ fn holds(range: AsciiRange, byte: u8) -> bool
     (range.low <= byte) & (byte <= range.high)
 }
 
+// With no branch, so that the compiler can test many bytes at once.
 fn outside(a: AsciiRange, b: AsciiRange, c: AsciiRange, d: AsciiRange, byte: u8) -> bool
     ensures { λ r. ⌜ r ≡ outside (a ∷ b ∷ c ∷ d ∷ []) byte ⌝ }
 {
     !(holds(a, byte) | holds(b, byte) | holds(c, byte) | holds(d, byte))
 }
 
-// How many bytes stand before the first that is in none of four ranges.
-fn scan_four(a: AsciiRange, b: AsciiRange, c: AsciiRange, d: AsciiRange, input: &[u8]) -> usize
+// How many bytes stand before the first that is in none of four ranges, byte by byte.
+fn scan_bytes(a: AsciiRange, b: AsciiRange, c: AsciiRange, d: AsciiRange, input: &[u8]) -> usize
     ensures { λ r. ⌜ r ≡ before (outside (a ∷ b ∷ c ∷ d ∷ [])) (now (input .entry)) ⌝ }
 {
     let mut i = 0;
@@ -236,6 +241,68 @@ fn scan_four(a: AsciiRange, b: AsciiRange, c: AsciiRange, d: AsciiRange, input: 
         i += 1;
     }
     i
+}
+
+fn lesser(x: u8, y: u8) -> u8
+    ensures { λ r. ⌜ r ≡ min x y ⌝ }
+{
+    if x < y {
+        return x;
+    }
+    y
+}
+
+// The place of a byte that is outside; of any other, the end of its block.
+fn place_or_end(outside: bool, place: u8) -> u8
+    ensures { λ r. ⌜ r ≡ pick outside place 16 ⌝ }
+{
+    if outside {
+        return place;
+    }
+    16
+}
+
+// How many bytes of a block stand before the first that is in none of four ranges. The loop has no early way out and a place is
+// one byte, so the compiler tests the 16 bytes at once (SSE2) and no branch depends on where the run ends.
+fn first_outside(a: AsciiRange, b: AsciiRange, c: AsciiRange, d: AsciiRange, block: &[u8]) -> usize
+    requires { ⌜ length (now block) ≡ 16 ⌝ }
+    ensures { λ r. ⌜ (r ≡ before (outside (a ∷ b ∷ c ∷ d ∷ [])) (now (block .entry))) × (r ≤ 16) ⌝ }
+{
+    let mut first = 16;
+    let mut k = 0;
+    while k < 16 {
+        first = lesser(first, place_or_end(outside(a, b, c, d, block[k]), k as u8));
+        k += 1;
+    }
+    first as usize
+}
+
+// The same as `scan_bytes`, block by block. The last block ends with the input, so it can begin inside the one before it.
+fn scan_blocks(a: AsciiRange, b: AsciiRange, c: AsciiRange, d: AsciiRange, input: &[u8]) -> usize
+    requires { ⌜ 16 ≤ length (now input) ⌝ }
+    ensures { λ r. ⌜ r ≡ before (outside (a ∷ b ∷ c ∷ d ∷ [])) (now (input .entry)) ⌝ }
+{
+    let last = input.len() - 16;
+    let mut at = 0;
+    while at < last {
+        let first = first_outside(a, b, c, d, &input[at..at + 16]);
+        if first < 16 {
+            return at + first;
+        }
+        at += 16;
+    }
+    last + first_outside(a, b, c, d, &input[last..])
+}
+
+// How many bytes stand before the first that is in none of four ranges. Always four: a loop over fewer is so short that the
+// compiler unrolls it and tests byte by byte.
+fn scan_four(a: AsciiRange, b: AsciiRange, c: AsciiRange, d: AsciiRange, input: &[u8]) -> usize
+    ensures { λ r. ⌜ r ≡ before (outside (a ∷ b ∷ c ∷ d ∷ [])) (now (input .entry)) ⌝ }
+{
+    if 16 <= input.len() {
+        return scan_blocks(a, b, c, d, input);
+    }
+    scan_bytes(a, b, c, d, input)
 }
 
 // The range, or one that holds nothing.

@@ -11,7 +11,7 @@ use borrow.Author.Needs.{needs}
 use borrow.Author.Tests.{eq-eqb, ne-eqb, lt-leb}
 use Rattle.refusal.specs.Said.{FIELD}
 use Rattle.refusal.specs.Lists.{before}
-use Rattle.refusal.proofs.Lists.{before-next, before-here, before-skip}
+use Rattle.refusal.proofs.Lists.{before-next, before-here, search-first}
 use Rattle.ascii_range.specs.Ranges.{exitsAt, rangesFrom, loopRanges}
 use Rattle.ascii_run.specs.declared.AsciiRun.the-variants.{Any, Until1, Until2, Until3}
 use Rattle.ascii_run.specs.declared.RunAnswer.{RunAnswer}
@@ -34,7 +34,7 @@ module _ (state : ℕ) where
 
   -- symbols that loop are passed over
   exits-skip : (k n : ℕ) (ts : List ℕ) → n ≡ before (exitsAt state) ts → exitsFrom state k ts ≡ exitsFrom state (k + n) (drop n ts)
-  exits-skip = before-skip (exitsAt state) (exitsFrom state) (λ k. exits-nil k ∙ sym (exits-nil 0)) exits-past
+  exits-skip = search-first (exitsAt state) (exitsFrom state) (λ k. exits-nil k ∙ sym (exits-nil 0)) exits-past
 
   module _ (row : List ℕ) (i : ℕ) {e : ℕ} (h : e ≡ i + before (exitsAt state) (drop i row)) where
     moved : exitsFrom state i (drop i row) ≡ exitsFrom state e (drop e row)

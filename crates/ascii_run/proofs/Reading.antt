@@ -1,28 +1,27 @@
 -- The reading of a run's words, by the tests that the code makes in turn. `r` is the code's answer. Assumes nothing.
 use Prim.Native.Nat.{ℕ, _+_, _*_, _-_, _/_, _%_, _≤_, _<_}
 use native.Mathlib.Omega.{arith}
-use mathlib.Core.Path.{_≡_, ap, sym, _∙_}
+use mathlib.Core.Path.{_≡_, refl, ap, sym, _∙_}
 use mathlib.Core.Bool.{Bool, true, false, _&&_, and-true, and-assoc}
-use mathlib.Core.List.{List}
-use lib.Dec.{eqb, ltb}
-use lib.ListN.{length, getD}
+use mathlib.Core.List.{List, [], _∷_}
+use lib.Dec.{eqb, leb, ltb}
+use lib.ListN.{length, getD, take}
 use borrow.Author.Needs.{needs}
-use borrow.Author.Tests.{eq-eqb, ne-eqb, le-leb, lt-leb, lt-ltb, le-ltb}
-use Rattle.refusal.specs.declared.Refusal.{Refusal}
+use borrow.Author.Tests.{eq-eqb, ne-eqb, le-leb, lt-leb, lt-ltb, le-ltb, eqb-true}
 use Rattle.refusal.specs.Said.{SHORT, FIELD}
-use Rattle.refusal.specs.Lists.{every}
+use Rattle.refusal.specs.Lists.{pick, every}
 use Rattle.ascii_range.specs.declared.AsciiRanges.{AsciiRanges}
 use Rattle.ascii_range.specs.declared.PackedRanges.{PackedRanges}
 use Rattle.ascii_range.specs.Ranges.{rangesOfRun, packedOf}
 use Rattle.ascii_run.specs.declared.AsciiRun.{AsciiRun}
 use Rattle.ascii_run.specs.declared.AsciiRun.the-variants.{None, Any, Until1, Until2, Until3, Ranges}
-use Rattle.ascii_run.specs.declared.Answered.the-variants.{Ran, Refused}
+use Rattle.ascii_run.specs.declared.Answered.the-variants.{Ran}
 use Rattle.ascii_run.specs.declared.Run.{Run}
 use Rattle.ascii_run.specs.declared.RunAnswer.{RunAnswer}
 use Rattle.ascii_run.specs.declared.RunWords.{RunWords}
-use Rattle.ascii_run.specs.Shape.{plain, held, Got, run, refused, answered, Gives}
-use Rattle.ascii_run.specs.Words.{orField, shortRun, kindOf, bytesOf, rangesRun, readAt, sizeOf, aloneIn, oneWord, wordsOf}
-use Rattle.ascii_run.proofs.Answers.{gives, given}
+use Rattle.ascii_run.specs.Shape.{until, plain, held, Got, run, refused, answered, Gives}
+use Rattle.ascii_run.specs.Words.{orField, shortRun, kindOf, bytesOf, rangesRun, packedAt, readAt, sizeOf, aloneIn, readAlone, oneWord, wordsOf}
+use Rattle.ascii_run.proofs.Answers.{gives}
 
 module _ {r : RunAnswer} where
   -- a test of a run's bytes
@@ -92,31 +91,91 @@ module _ (w : List ℕ) (at : ℕ) {r : RunAnswer} where
       let two : at + 1 + 1 ≡ at + 2 = omega arith in
       gives _ (h ∙ (rw (lt-ltb at (length w) l, eq-eqb (getD w at 0 % 256) 5 e, le-leb (at + 3) (length w) m, two)))
 
--- A run alone: what was read says what the whole list is.
-module _ (w : List ℕ) {q : RunAnswer} where
-  pub alone-good : (g : Got) {k : AsciiRun} {n : ℕ} → Gives q g → q .answer ≡ Ran k → n ≡ sizeOf k → n ≡ length w → Gives q (aloneIn w g)
-  alone-good (run x) {k} h e s l =
-      let f = given (run x) h in
-      let i : x .kind ≡ k = cc in
-      gives _ (f ∙ (rw (eq-eqb (length w) (sizeOf (x .kind)) (sym l ∙ s ∙ ap sizeOf (sym i)))))
-  alone-good (refused m p) h e s l =
-      let f = given (refused m p) h in
-      let z : _≡_ {A = ℕ} 0 1 = cc in
-      absurd (omega arith)
+-- A run of n words, or FIELD at a place.
+abbrev Sized : ℕ → ℕ → Got → Type 0
+Sized n at (run q) = sizeOf (q .kind) ≡ n
+Sized n at (refused m p) = (m ≡ FIELD) × (p ≡ at)
 
-  pub alone-long : (g : Got) {r : RunAnswer} {k : AsciiRun} {n : ℕ} → r ≡ answered (refused FIELD 0) → Gives q g → q .answer ≡ Ran k → n ≡ sizeOf k → (n ≡ length w → ⊥) → Gives r (aloneIn w g)
-  alone-long (run x) {r} {k} c h e s l =
-      let f = given (run x) h in
-      let i : x .kind ≡ k = cc in
-      gives _ (c ∙ (rw (ne-eqb (length w) (sizeOf (x .kind)) (λ y. l (s ∙ ap sizeOf (sym i) ∙ sym y)))))
-  alone-long (refused m p) c h e s l = gives _ c
+by-pick : (P : Got → Type 0) (t : Bool) {x y : Got} → P x → P y → P (pick t x y)
+by-pick P true a b = a
+by-pick P false a b = b
 
-  pub alone-bad : (g : Got) {r : RunAnswer} {x : Refusal} → r ≡ answered (refused FIELD 0) → Gives q g → q .answer ≡ Refused x → Gives r (aloneIn w g)
-  alone-bad (run y) c h e =
-      let f = given (run y) h in
-      let z : _≡_ {A = ℕ} 0 1 = cc in
-      absurd (omega arith)
-  alone-bad (refused m p) c h e = gives _ c
+until-size : (es : List ℕ) → sizeOf (held (until es) .kind) ≡ 1
+unfolding held
+until-size [] = refl
+until-size (a ∷ []) = refl
+until-size (a ∷ b ∷ []) = refl
+until-size (a ∷ b ∷ c ∷ []) = refl
+until-size (a ∷ b ∷ c ∷ d ∷ es) = refl
+
+field-size : (at : ℕ) (t : Bool) (q : Run) → sizeOf (q .kind) ≡ 1 → Sized 1 at (orField at t q)
+unfolding orField
+field-size at t q h = by-pick (Sized 1 at) t h (refl, refl)
+
+short-size : (at kind : ℕ) (bytes : List ℕ) → Sized 1 at (shortRun at kind bytes)
+unfolding shortRun held
+short-size at kind bytes =
+    by-pick (Sized 1 at) (eqb kind 0) (field-size at _ (plain None) refl)
+    (by-pick (Sized 1 at) (eqb kind 1) (field-size at _ (plain Any) refl)
+    (by-pick (Sized 1 at) (leb kind 4) (field-size at _ _ (until-size (take (kind - 1) bytes))) (refl, refl)))
+
+ranges-size : (at : ℕ) (q : AsciiRanges) → Sized 3 at (rangesRun at q)
+unfolding rangesRun
+ranges-size at q = by-pick (Sized 3 at) (eqb (q .count) 0) (refl, refl) refl
+
+-- A run alone, by how many words there are: a run of so many stays, and any other is FIELD.
+module _ (w : List ℕ) where
+  alone-same : (g : Got) → Sized (length w) 0 g → aloneIn w g ≡ g
+  alone-same (run q) h = rw (eq-eqb (length w) (sizeOf (q .kind)) (sym h))
+  alone-same (refused m p) h = rw (h .0, h .1)
+
+  alone-not : (n : ℕ) (g : Got) → Sized n 0 g → (length w ≡ n → ⊥) → aloneIn w g ≡ refused FIELD 0
+  alone-not n (run q) h l = rw (ne-eqb (length w) (sizeOf (q .kind)) (λ e. l (e ∙ h)))
+  alone-not n (refused m p) h l = refl
+
+-- the two readings of a list; in the one that its length leaves, a kind of the other is FIELD
+abbrev short : List ℕ → Got
+short w = shortRun 0 (kindOf (getD w 0 0)) (bytesOf (getD w 0 0))
+
+abbrev ranged : List ℕ → Got
+ranged w = rangesRun 0 (rangesOfRun (getD w 0 0) (packedAt w 1))
+
+short-five : (kind : ℕ) (bytes : List ℕ) → kind ≡ 5 → shortRun 0 kind bytes ≡ refused FIELD 0
+unfolding shortRun
+short-five kind bytes e = rw e
+
+ranges-other : (kind : ℕ) (q : PackedRanges) → eqb (kindOf kind) 5 ≡ false → rangesRun 0 (rangesOfRun kind q) ≡ refused FIELD 0
+unfolding rangesRun rangesOfRun
+ranges-other kind q e = rw e
+
+module _ (w : List ℕ) where
+  short-alone : (t : Bool) → eqb (kindOf (getD w 0 0)) 5 ≡ t → length w ≡ 1 → short w ≡ readAlone w
+  unfolding readAt
+  short-alone true e l = rw (l, e) (short-five _ _ (eqb-true _ _ e))
+  short-alone false e l = rw (l, e) (sym (alone-same w (short w) (rw l (short-size 0 _ _))))
+
+  ranges-alone : (t : Bool) → eqb (kindOf (getD w 0 0)) 5 ≡ t → length w ≡ 3 → ranged w ≡ readAlone w
+  unfolding readAt
+  ranges-alone true e l = rw (l, e) (sym (alone-same w (ranged w) (rw l (ranges-size 0 _))))
+  ranges-alone false e l = rw (l, e) (ranges-other _ _ e ∙ sym (alone-not w 1 (short w) (short-size 0 _ _) (λ x. omega arith)))
+
+  none-alone : (length w ≡ 1 → ⊥) → (length w ≡ 3 → ⊥) → readAlone w ≡ refused FIELD 0
+  unfolding readAt
+  none-alone a b =
+      let P : Got → Type 0 = λ g. aloneIn w g ≡ refused FIELD 0 in
+      let one : P (short w) = alone-not w 1 (short w) (short-size 0 _ _) a in
+      let three : P (ranged w) = alone-not w 3 (ranged w) (ranges-size 0 _) b in
+      by-pick P (ltb 0 (length w)) (by-pick P (eqb (kindOf (getD w 0 0)) 5) (by-pick P (leb 3 (length w)) three refl) one) refl
+
+  module _ {r : RunAnswer} where
+    pub alone-short : r ≡ answered (short w) → length w ≡ 1 → Gives r (readAlone w)
+    alone-short h l = gives _ (h ∙ ap answered (short-alone _ refl l))
+
+    pub alone-ranges : r ≡ answered (ranged w) → length w ≡ 3 → Gives r (readAlone w)
+    alone-ranges h l = gives _ (h ∙ ap answered (ranges-alone _ refl l))
+
+    pub alone-none : r ≡ answered (refused FIELD 0) → (length w ≡ 1 → ⊥) → (length w ≡ 3 → ⊥) → Gives r (readAlone w)
+    alone-none h a b = gives _ (h ∙ ap answered (sym (none-alone a b)))
 
 -- The words of a run, kind by kind.
 module _ {k : AsciiRun} (q : AsciiRanges) {r : RunWords} where
@@ -138,4 +197,4 @@ module _ {k : AsciiRun} (q : AsciiRanges) {r : RunWords} where
 pub words-ranges : {k : AsciiRun} (q : AsciiRanges) {p : PackedRanges} {x : ℕ} → p ≡ packedOf (q .ranges) → x ≡ q .count → k ≡ Ranges → record { length = 3; first = 5 + 256 * x; second = p .first; third = p .second } ≡ wordsOf k q
 words-ranges q f g e = rw (e, f, g)
 
-pub ruleset reading = (needs, field-good, field-bad, ranges-bad, ranges-good, short-none, short-any, short-one, short-two, short-three, short-other, read-end, read-short, read-cut, read-ranges, alone-good, alone-long, alone-bad, words-none, words-any, words-one, words-two, words-three, words-ranges)
+pub ruleset reading = (needs, field-good, field-bad, ranges-bad, ranges-good, short-none, short-any, short-one, short-two, short-three, short-other, read-end, read-short, read-cut, read-ranges, alone-short, alone-ranges, alone-none, words-none, words-any, words-one, words-two, words-three, words-ranges)

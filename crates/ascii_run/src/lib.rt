@@ -230,17 +230,19 @@ pub fn serialized_words(kind: AsciiRun) -> usize
     }
 }
 
-// The run whose words these are, all of them; anything else is FIELD.
+// The run whose words these are, all of them; anything else is FIELD. How many there are says which kinds it can be.
 pub fn read_alone(words: &[u32]) -> RunAnswer
     ensures { λ r. ⌜ Gives r (readAlone (now (words .entry))) ⌝ }
 {
-    let read = read_serialized(words, 0);
-    let answer = read.answer;
-    let Answered::Ran(kind) = answer else {
-        return refuse(FIELD, 0);
-    };
-    if serialized_words(kind) == words.len() {
-        return read;
+    if words.len() == 1 {
+        return read_short(words[0], 0);
+    }
+    if words.len() == 3 {
+        let packed = PackedRanges {
+            first: words[1],
+            second: words[2],
+        };
+        return read_ranges(words[0], packed, 0);
     }
     refuse(FIELD, 0)
 }

@@ -1,14 +1,14 @@
 -- Laws of `before`, `some` and `every`, over any test. Assumes nothing.
-use Prim.Native.Nat.{ℕ, zero, suc, _+_, _≤_, _<_, zero-le}
-use native.Mathlib.Nat.{add-zero, add-suc, suc-add}
+use Prim.Native.Nat.{ℕ, zero, suc, _+_, _-_, _≤_, _<_, min, zero-le}
+use native.Mathlib.Nat.{add-zero, add-suc, suc-add, add-sub-cancel-left}
 use native.Mathlib.Numerals.{add-one}
 use native.Mathlib.Omega.{arith}
 use mathlib.Core.Path.{_≡_, refl, ap, sym, _∙_}
 use mathlib.Core.Bool.{Bool, true, false, not}
 use mathlib.Core.List.{List, [], _∷_}
 use lib.Dec.{eqb}
-use lib.ListN.{length, getD, drop, drop-of-length-le}
-use lib.Seq.{drop-cons, drop-nil, drop-drop}
+use lib.ListN.{length, getD, take, drop, drop-of-length-le, length-take, length-drop}
+use lib.Seq.{drop-cons, drop-nil, drop-drop, take-all}
 use borrow.Author.Needs.{needs}
 use borrow.Author.Tests.{eq-eqb, ne-eqb}
 use Rattle.refusal.specs.Lists.{pick, before}
@@ -79,11 +79,71 @@ module _ (p : ℕ → Bool) where
   pub ends : (xs : List ℕ) (i : ℕ) {n : ℕ} → length xs ≤ i → i + before p (drop i xs) ≡ n → i ≡ n
   ends xs i h a = omega (arith, before-end xs i h)
 
+  -- in the front of a list, what is found in all of it, or nothing
+  pub before-take : (n : ℕ) (xs : List ℕ) → before p (take n xs) ≡ min n (before p xs)
+  unfolding before
+  before-take zero xs = omega arith
+  before-take (suc n) [] = omega arith
+  before-take (suc n) (x ∷ xs) = cases (p x) (before-take n xs) where
+    cases : (t : Bool) → before p (take n xs) ≡ min n (before p xs) → pick t zero (suc (before p (take n xs))) ≡ min (suc n) (pick t zero (suc (before p xs)))
+    cases true h = omega arith
+    cases false h = omega arith
+
+  -- up to the place that is found, the search can begin anywhere
+  pub before-skip : (n : ℕ) (xs : List ℕ) → n ≤ before p xs → n + before p (drop n xs) ≡ before p xs
+  unfolding before
+  before-skip zero xs h = omega arith
+  before-skip (suc n) [] h = absurd (omega arith)
+  before-skip (suc n) (x ∷ xs) h = cases (p x) (before-skip n xs) h where
+    cases : (t : Bool) → (n ≤ before p xs → n + before p (drop n xs) ≡ before p xs) → suc n ≤ pick t zero (suc (before p xs)) → suc n + before p (drop n xs) ≡ pick t zero (suc (before p xs))
+    cases true r k = absurd (omega arith)
+    cases false r k = omega (arith, r (omega arith))
+
+-- A search with no early way out. Its loop's invariant: the less of what is found so far and what is found from here is what is found in all.
+-- What is found so far is m, the list's length, where that is nothing.
+module _ (p : ℕ → Bool) (xs : List ℕ) where
+  pub least-begins : {m : ℕ} → length xs ≡ m → min m (0 + before p xs) ≡ before p xs
+  least-begins l = omega (arith, before-≤ p xs)
+
+  pub least-goes : (k : ℕ) {f g e m n : ℕ} {t : Bool} → k < length xs → t ≡ p (getD xs k 0) → e ≡ pick t k m → g ≡ min f e → f ≤ m → min f (k + before p (drop k xs)) ≡ n → min g (k + 1 + before p (drop (k + 1) xs)) ≡ n
+  least-goes k {f} {g} {e} {m} {n} {t} h i j l u a = cases t i j where
+    cases : (t : Bool) → t ≡ p (getD xs k 0) → e ≡ pick t k m → min g (k + 1 + before p (drop (k + 1) xs)) ≡ n
+    cases true i j = omega (arith, before-stop p xs k h (sym i))
+    cases false i j = omega (arith, before-pass p xs k h (sym i))
+
+  pub least-ends : (k : ℕ) {f n : ℕ} → length xs ≤ k → f ≤ k → min f (k + before p (drop k xs)) ≡ n → f ≡ n
+  least-ends k h u a = omega (arith, before-end p xs k h)
+
+-- A part of a list: m numbers from a place, as `&s[at..at + m]` reads them, and the last m, as `&s[s.len() - m..]` does.
+module _ (xs : List ℕ) (m : ℕ) where
+  pub part-length : (at : ℕ) → at + m ≤ length xs → length (take (at + m - at) (drop at xs)) ≡ m
+  part-length at h = simp (length-take, length-drop) (omega arith)
+
+  pub last-length : m ≤ length xs → length (take (length xs - (length xs - m)) (drop (length xs - m) xs)) ≡ m
+  last-length h = simp (length-take, length-drop) (omega arith)
+
+-- A search part by part.
+module _ (p : ℕ → Bool) (xs : List ℕ) (at : ℕ) where
+  part : (m : ℕ) → before p (take (at + m - at) (drop at xs)) ≡ min m (before p (drop at xs))
+  part m = rw (add-sub-cancel-left at m) (before-take p m (drop at xs))
+
+  pub part-halts : (m : ℕ) {r n : ℕ} → r ≡ before p (take (at + m - at) (drop at xs)) → r < m → at + before p (drop at xs) ≡ n → at + r ≡ n
+  part-halts m e h a = omega (arith, part m)
+
+  pub part-passes : (m : ℕ) {r n : ℕ} → r ≡ before p (take (at + m - at) (drop at xs)) → m ≤ r → at + before p (drop at xs) ≡ n → at + m + before p (drop (at + m) xs) ≡ n
+  part-passes m e h a = rw (← drop-drop m at xs) (omega (arith, part m, before-skip p m (drop at xs) (omega (arith, part m))))
+
+  -- the part up to the end can begin before the place that the search has come to
+  pub part-ends : (last : ℕ) {r : ℕ} → r ≡ before p (take (length xs - last) (drop last xs)) → last ≤ at → at + before p (drop at xs) ≡ before p xs → last + r ≡ before p xs
+  part-ends last e h a =
+      let rest : take (length xs - last) (drop last xs) ≡ drop last xs = take-all (length xs - last) (drop last xs) (rw length-drop (omega arith)) in
+      omega (arith, rw rest at e, before-skip p last xs (omega arith))
+
 -- what is made of a list whose places are counted from k, where an element at which the test fails makes nothing: the search may come first
-pub before-skip : {A : Type 0} (p : ℕ → Bool) (f : ℕ → List ℕ → A) → ((k : ℕ) → f k [] ≡ f 0 []) → ((k x : ℕ) (xs : List ℕ) → p x ≡ false → f k (x ∷ xs) ≡ f (suc k) xs) →
+pub search-first : {A : Type 0} (p : ℕ → Bool) (f : ℕ → List ℕ → A) → ((k : ℕ) → f k [] ≡ f 0 []) → ((k x : ℕ) (xs : List ℕ) → p x ≡ false → f k (x ∷ xs) ≡ f (suc k) xs) →
     (k n : ℕ) (xs : List ℕ) → n ≡ before p xs → f k xs ≡ f (k + n) (drop n xs)
-before-skip p f z s k n [] h = rw drop-nil (z k ∙ sym (z (k + n)))
-before-skip p f z s k n (x ∷ xs) h = cases (p x) refl (before-skip p f z s (suc k) (before p xs) xs refl) where
+search-first p f z s k n [] h = rw drop-nil (z k ∙ sym (z (k + n)))
+search-first p f z s k n (x ∷ xs) h = cases (p x) refl (search-first p f z s (suc k) (before p xs) xs refl) where
   cases : (t : Bool) → p x ≡ t → f (suc k) xs ≡ f (suc k + before p xs) (drop (before p xs) xs) → f k (x ∷ xs) ≡ f (k + n) (drop n (x ∷ xs))
   cases true e r = rw (h ∙ before-true p {x = x} xs e) (rw add-zero)
   cases false e r = rw (h ∙ before-false p {x = x} xs e, add-suc, s k x xs e) (r ∙ (rw suc-add))
@@ -114,3 +174,8 @@ not-neqb a b n = ap not (ne-eqb a b n)
 
 -- what a loop of such a search is left with
 pub ruleset searching = (needs, halts, passes, ends, halts-by, passes-by, eq-eqb, ne-eqb, not-eqb, not-neqb)
+
+-- and a loop of one with no early way out, and of one part by part
+pub ruleset searching-least = (needs, least-begins, least-goes, least-ends)
+
+pub ruleset searching-parts = (needs, part-length, last-length, part-halts, part-passes, part-ends)

@@ -1,4 +1,5 @@
--- The tests are the definition's, in turn.
+-- `ascii_range::new` meets its contract: each way out is the case of `checked` that the tests on the way say.
+use borrow.Author.Needs.{needs}
 use Rattle.ascii_range.proofs.Checks.{checking}
 use Rattle.ascii_range.proofs.new.Statement.{statement}
 use Rattle.ascii_range.proofs.new.Tie as tie
@@ -7,12 +8,14 @@ pub new-spec : {M : Type 1} → statement M
 new-spec =
     tie.close
     (tie.spec
-    (λ c κs. search checking)
+    (λ c κs. search needs)
     (λ c. search checking)
-    (λ c κs. search checking)
+    (λ c κs. search needs)
     (λ c. search checking)
-    (λ c κs. search checking)
-    (λ c κs. search checking)
+    (λ c κs. search needs)
+    (λ c κs. search needs)
     (λ c. search checking)
-    (λ c κs. search checking)
+    (λ c κs. search needs)
+    (λ c. search checking)
+    (λ c κs. search needs)
     (λ c. search checking))

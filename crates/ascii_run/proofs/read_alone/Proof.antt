@@ -1,4 +1,5 @@
--- What was read says whether it is the whole list.
+-- `ascii_run::read_alone` meets its contract: the length leaves one reading of the words, or none.
+use borrow.Author.Needs.{needs}
 use Rattle.ascii_run.proofs.Reading.{reading}
 use Rattle.ascii_run.proofs.read_alone.Statement.{statement}
 use Rattle.ascii_run.proofs.read_alone.Tie as tie
@@ -7,12 +8,13 @@ pub read-alone-spec : {M : Type 1} → statement M
 read-alone-spec =
     tie.close
     (tie.spec
-    (λ c κs. search reading)
+    (λ c. search needs)
+    (λ c κs. search needs)
     (λ c. search reading)
+    (λ c. search needs)
+    (λ c. search needs)
+    (λ c. search needs)
+    (λ c κs. search needs)
     (λ c. search reading)
-    (λ c κs. search reading)
-    (λ c. search reading)
-    (λ c κs. search reading)
-    (λ c. search reading)
-    (λ c κs. search reading)
+    (λ c κs. search needs)
     (λ c. search reading))
