@@ -10,12 +10,11 @@
  * the length is 0. Nothing is kept after the call and nothing is written.
  *
  * An answer's `number` is 0 where the call was accepted. Else it is the refusal's number, `place`
- * tells where, and every other field is 0 or false.
+ * tells where, and every other field is 0.
  */
 #ifndef LEXER_DFA_H
 #define LEXER_DFA_H
 
-#include <stdbool.h>
 #include <stddef.h>
 #include <stdint.h>
 
@@ -86,15 +85,15 @@ RunAnswer lexer_dfa_classify(const uint16_t *row, size_t len, uint16_t state);
    FIELD at `at` where they are no run. Kind 5 needs its three words before FIELD is judged. */
 RunAnswer lexer_dfa_read_run(const uint32_t *words, size_t len, size_t at);
 
-/* `ran` is false where there is no run (kind 0): no refusal, and not the same as a run of 0 bytes.
-   The run is the first `bytes` bytes of the input; `found_exit` tells that it stops at a byte and
+/* `ran` is 1, or 0 where there is no run (kind 0): no refusal, and not the same as a run of 0 bytes.
+   The run is the first `bytes` bytes of the input; `found_exit` is 1 where it stops at a byte and
    not because the input ends. */
 typedef struct {
     uint32_t number;
     size_t place;
-    bool ran;
+    uint32_t ran;
     size_t bytes;
-    bool found_exit;
+    uint32_t found_exit;
 } ScanAnswer;
 
 /* Scans with the run whose words these are. Words that are not exactly one run's are FIELD at 0. */

@@ -1,10 +1,8 @@
 -- What the C face answers follows from what the calls say. Assumes nothing.
 use Prim.Native.Nat.{ℕ}
 use native.Mathlib.Omega.{arith}
-use mathlib.Core.Path.{_≡_, refl, _∙_}
-use mathlib.Core.Bool.{Bool, true, false}
+use mathlib.Core.Path.{_≡_, _∙_}
 use mathlib.Core.List.{List}
-use lib.Dec.{eqb}
 use borrow.Author.Needs.{needs}
 use Rattle.refusal.specs.declared.Refusal.{Refusal}
 use Rattle.refusal.specs.Said.{Said}
@@ -50,16 +48,12 @@ run-in-c (run x) h e = e ∙ (rw (given (run x) h))
 run-in-c (refused n p) h e = e ∙ (rw (given (refused n p) h))
 
 -- how far a run went, or that there is none, or a refusal
-bit-back : (b : Bool) → b ≡ eqb (bit b) 1
-bit-back true = refl
-bit-back false = refl
-
 module _ {s : Scanned} where
   pub scan-none : s ≡ NoRun → refusedScan 0 0 ≡ scanInC (said s)
   scan-none e = rw e
 
-  pub scan-skipped : {x : AsciiRunScan} → s ≡ Skipped x → record { number = 0; place = 0; ran = true; bytes = x .bytes; «found_exit» = x .«found_exit» } ≡ scanInC (said s)
-  scan-skipped {x} e = rw e (rw (← bit-back (x .«found_exit»)))
+  pub scan-skipped : {x : AsciiRunScan} {n : ℕ} → s ≡ Skipped x → n ≡ bit (x .«found_exit») → record { number = 0; place = 0; ran = 1; bytes = x .bytes; «found_exit» = n } ≡ scanInC (said s)
+  scan-skipped e f = rw (e, f)
 
 module _ (bs : List ℕ) {q : RunAnswer} where
   pub scan-run : (g : Got) (s : Scanned) {k : AsciiRun} {r : CScan} → Gives q g → q .answer ≡ Ran k → said s ≡ scanSaid (shapeOf k (q .ranges)) bs → r ≡ scanInC (said s) → r ≡ scanInC (scanGot g bs)

@@ -1,8 +1,6 @@
 -- The answers in C: a number of 0 and the values, or the refusal's number and place. Assumes nothing.
 use Prim.Native.Nat.{ℕ}
-use mathlib.Core.Bool.{true, false}
 use mathlib.Core.List.{List, [], _∷_}
-use lib.Dec.{eqb}
 use lib.ListN.{getD}
 use Rattle.refusal.specs.Said.{Said, ok, no}
 use Rattle.ascii_range.specs.declared.AsciiRanges.{AsciiRanges}
@@ -38,12 +36,12 @@ runInC (run q) = wordsC (wordsOf (q .kind) (q .ranges))
 runInC (refused n p) = refusedRun n p
 
 abbrev pub refusedScan : ℕ → ℕ → CScan
-refusedScan n p = record { number = n; place = p; ran = false; bytes = 0; «found_exit» = false }
+refusedScan n p = record { number = n; place = p; ran = 0; bytes = 0; «found_exit» = 0 }
 
 -- no value: no run; else the length and the exit flag
 abbrev pub scanInC : Said → CScan
 scanInC (ok []) = refusedScan 0 0
-scanInC (ok (n ∷ l)) = record { number = 0; place = 0; ran = true; bytes = n; «found_exit» = eqb (getD l 0 0) 1 }
+scanInC (ok (n ∷ l)) = record { number = 0; place = 0; ran = 1; bytes = n; «found_exit» = getD l 0 0 }
 scanInC (no n p) = refusedScan n p
 
 abbrev pub scanGot : Got → List ℕ → Said

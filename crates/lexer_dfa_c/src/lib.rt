@@ -1,7 +1,7 @@
 // The calls of `lexer_dfa` for C and Rust: slices pass as pointer and length, answers come back as structs.
 // A number of 0 says accepted; else it is document 01's refusal, with its place, and every other field is 0.
 ghost use mathlib.Core.Path.{_≡_};
-ghost use Rattle.ascii_run.specs.Scan.{said};
+ghost use Rattle.ascii_run.specs.Scan.{bit, said};
 ghost use Rattle.range_class.specs.Class.{byteClass, byteNumber, classNumber, classSaid};
 ghost use Rattle.ascii_run.specs.Classify.{classified};
 ghost use Rattle.ascii_run.specs.Words.{readAt};
@@ -33,14 +33,15 @@ pub struct CRun {
     pub third: u32,
 }
 
-// How far a run went, and whether an exit stopped it; `ran` is false where there is no run.
+// How far a run went, and whether an exit stopped it; `ran` is 0 where there is no run. The flags are whole words, 1 or 0, so that
+// a caller that loads a word finds one stored.
 #[repr(C)]
 pub struct CScan {
     pub number: u32,
     pub place: usize,
-    pub ran: bool,
+    pub ran: u32,
     pub bytes: usize,
-    pub found_exit: bool,
+    pub found_exit: u32,
 }
 
 fn byte_number(class: ByteClass) -> u32
@@ -141,6 +142,12 @@ pub extern "C" fn lexer_dfa_read_run(words: &[u32], at: usize) -> CRun
     words_in_c(lexer_dfa::read_serialized(words, at))
 }
 
+fn flag(set: bool) -> u32
+    ensures { λ r. ⌜ r ≡ bit set ⌝ }
+{
+    if set { 1 } else { 0 }
+}
+
 fn said_in_c(scanned: Scanned) -> CScan
     ensures { λ r. ⌜ r ≡ scanInC (said scanned) ⌝ }
 {
@@ -148,16 +155,16 @@ fn said_in_c(scanned: Scanned) -> CScan
         Scanned::NoRun => CScan {
             number: 0,
             place: 0,
-            ran: false,
+            ran: 0,
             bytes: 0,
-            found_exit: false,
+            found_exit: 0,
         },
         Scanned::Skipped(scan) => CScan {
             number: 0,
             place: 0,
-            ran: true,
+            ran: 1,
             bytes: scan.bytes,
-            found_exit: scan.found_exit,
+            found_exit: flag(scan.found_exit),
         },
     }
 }
@@ -177,9 +184,9 @@ pub extern "C" fn lexer_dfa_scan(words: &[u32], input: &[u8]) -> CScan
         Answered::Refused(refusal) => CScan {
             number: refusal.number,
             place: refusal.place,
-            ran: false,
+            ran: 0,
             bytes: 0,
-            found_exit: false,
+            found_exit: 0,
         },
     }
 }

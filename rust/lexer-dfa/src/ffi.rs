@@ -25,9 +25,9 @@ pub struct RunAnswer {
 pub struct ScanAnswer {
     pub number: u32,
     pub place: usize,
-    pub ran: bool,
+    pub ran: u32,
     pub bytes: usize,
-    pub found_exit: bool,
+    pub found_exit: u32,
 }
 
 unsafe extern "C" {
@@ -72,7 +72,7 @@ pub fn scan(words: &[u32], input: &[u8]) -> ScanAnswer {
 mod tests {
     use super::*;
 
-    /// What the header promises of a refused answer: every other field is 0 or false.
+    /// What the header promises of a refused answer: every other field is 0.
     #[test]
     fn a_refused_answer_is_empty() {
         let mut row = [0; 129];
@@ -88,7 +88,7 @@ mod tests {
             assert_eq!((answer.number, answer.place, answer.class), (3, 0, 0));
             let answer = scan(words, b"10 ply");
             assert_eq!((answer.number, answer.place, answer.bytes), (3, 0, 0));
-            assert!(!answer.ran && !answer.found_exit);
+            assert_eq!((answer.ran, answer.found_exit), (0, 0));
         }
         for words in &words[..4] {
             let answer = read_run(words, 0);
@@ -109,6 +109,6 @@ mod tests {
         assert_eq!([answer.first, answer.second, answer.third], [1, 0, 0]);
         let answer = scan(&[0], b"10 ply");
         assert_eq!((answer.number, answer.place, answer.bytes), (0, 0, 0));
-        assert!(!answer.ran && !answer.found_exit);
+        assert_eq!((answer.ran, answer.found_exit), (0, 0));
     }
 }

@@ -119,5 +119,6 @@ pub struct AsciiRunScan {
 pub fn scan(words: &[u32], input: &[u8]) -> Result<Option<AsciiRunScan>, Refusal> {
     let answer = ffi::scan(words, input);
     Refusal::unless_accepted(answer.number, answer.place)?;
-    Ok(answer.ran.then_some(AsciiRunScan { bytes: answer.bytes, found_exit: answer.found_exit }))
+    let scan = AsciiRunScan { bytes: answer.bytes, found_exit: answer.found_exit != 0 };
+    Ok((answer.ran != 0).then_some(scan))
 }
