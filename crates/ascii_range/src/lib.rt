@@ -1,4 +1,4 @@
-// Ranges of ASCII bytes: their checks, their two packed words, the ranges on which a row loops, their class, and the scan by them.
+// Ranges of ASCII bytes: their checks, their two packed words, the ranges on which a row loops, and the scan by them.
 // What the Rust calls `Option<AsciiRanges>` is here an `AsciiRanges` whose count is 0 where there is none: a good list has 1 to 4.
 ghost use mathlib.Core.Path.{_≡_};
 ghost use Prim.Native.Nat.{_+_, _≤_, _<_, min};
@@ -27,7 +27,7 @@ pub struct PackedRanges {
     pub second: u32,
 }
 
-// The first symbol from `from` on whose target is not the state, or the row's length where there is none.
+// The first symbol from `from` on whose target is not the state: the row's length where there is none, or `from` past the row.
 pub fn next_exit(row: &[u16], state: u16, from: usize) -> usize
     ensures { λ r. ⌜ r ≡ from + before (exitsAt state) (drop from (now (row .entry))) ⌝ }
 {
@@ -41,7 +41,7 @@ pub fn next_exit(row: &[u16], state: u16, from: usize) -> usize
     symbol
 }
 
-// The first symbol from `from` on whose target is the state.
+// The first symbol from `from` on whose target is the state, likewise.
 fn next_loop(row: &[u16], state: u16, from: usize) -> usize
     ensures { λ r. ⌜ r ≡ from + before (loopsAt state) (drop from (now (row .entry))) ⌝ }
 {
@@ -55,6 +55,7 @@ fn next_loop(row: &[u16], state: u16, from: usize) -> usize
     low
 }
 
+// No ranges: the count is 0, and so is every place.
 fn none() -> AsciiRanges
     ensures { λ r. ⌜ r ≡ noRanges ⌝ }
 {
@@ -111,12 +112,14 @@ fn ordered(ranges: [AsciiRange; 4], count: usize) -> bool
     true
 }
 
+// A byte as a number that a sum may leave.
 fn wide(byte: u8) -> u32
     ensures { λ r. ⌜ (r ≡ byte) × (r < 256) ⌝ }
 {
     byte as u32
 }
 
+// A range that may stand behind one that ends below `least` - 1.
 fn follows(range: AsciiRange, least: u32) -> bool
     ensures { λ r. ⌜ r ≡ follows least range ⌝ }
 {
