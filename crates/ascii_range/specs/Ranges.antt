@@ -108,6 +108,6 @@ inRanges (r ∷ rs) b = inRange r b || inRanges rs b
 abbrev pub outside : List AsciiRange → ℕ → Bool
 outside rs b = not (inRanges rs b)
 
--- a range, or one that holds nothing
+-- What the scan's private functions say of a place: its range, or one that holds nothing where it does not count
 abbrev pub usedIf : Bool → AsciiRange → AsciiRange
 usedIf isUsed r = pick isUsed r (range 1 0)
