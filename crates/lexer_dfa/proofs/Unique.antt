@@ -18,6 +18,18 @@ use Rattle.ascii_run.proofs.scan.Reads as scan
 use Rattle.ascii_run.proofs.scan_length.Reads as scan-length
 use Rattle.ascii_run.proofs.Answers.{given}
 use Rattle.ascii_run.proofs.ScanSaid.{scanned-one}
+use Rattle.words.proofs.short.Reads as short
+use Rattle.words.proofs.read_mode.Reads as read-mode
+use Rattle.words.proofs.read_state.Reads as read-state
+use Rattle.words.proofs.read_run.Reads as read-run
+use Rattle.words.proofs.read_ascii_row.Reads as read-ascii-row
+use Rattle.words.proofs.read_wide_row.Reads as read-wide-row
+use Rattle.words.proofs.read_accept.Reads as read-accept
+use Rattle.words.proofs.read_escape_row.Reads as read-escape-row
+use Rattle.words.proofs.read_continuation.Reads as read-continuation
+use Rattle.words.proofs.read_config.Reads as read-config
+use Rattle.layout.proofs.find_sections.Reads as find-sections
+use Rattle.rules.proofs.first_broken.Reads as first-broken
 use Rattle.lexer_dfa.specs.Unique.{Determines, DeterminesPart}
 
 -- ascii_range
@@ -67,3 +79,45 @@ scan-unique κs a x y e f p q = (p .1 ∙ sym (q .1), p .0 ∙ sym (q .0))
 
 pub scan-length-unique : Determines scan-length.Learnt
 scan-length-unique κs a x y e f p q = scanned-one x y (p ∙ sym q)
+
+-- words
+
+pub short-unique : Determines short.Learnt
+short-unique κs a x y e f p q = p ∙ sym q
+
+pub read-mode-unique : Determines read-mode.Learnt
+read-mode-unique κs a x y e f p q = p ∙ sym q
+
+pub read-state-unique : Determines read-state.Learnt
+read-state-unique κs a x y e f p q = p ∙ sym q
+
+pub read-run-unique : Determines read-run.Learnt
+read-run-unique κs a x y e f p q = p ∙ sym q
+
+pub read-ascii-row-unique : Determines read-ascii-row.Learnt
+read-ascii-row-unique κs a x y e f p q = p ∙ sym q
+
+pub read-wide-row-unique : Determines read-wide-row.Learnt
+read-wide-row-unique κs a x y e f p q = p ∙ sym q
+
+pub read-accept-unique : Determines read-accept.Learnt
+read-accept-unique κs a x y e f p q = p ∙ sym q
+
+pub read-escape-row-unique : Determines read-escape-row.Learnt
+read-escape-row-unique κs a x y e f p q = p ∙ sym q
+
+pub read-continuation-unique : Determines read-continuation.Learnt
+read-continuation-unique κs a x y e f p q = p ∙ sym q
+
+pub read-config-unique : Determines read-config.Learnt
+read-config-unique κs a x y e f p q = p ∙ sym q
+
+-- layout
+
+pub find-sections-unique : Determines find-sections.Learnt
+find-sections-unique κs a x y e f p q = p ∙ sym q
+
+-- rules
+
+pub first-broken-unique : Determines first-broken.Learnt
+first-broken-unique κs a x y e f p q = p ∙ sym q

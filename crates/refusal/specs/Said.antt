@@ -6,10 +6,20 @@ pub data Said : Type 0 where
   ok : List ℕ → Said
   no : ℕ → ℕ → Said
 
--- 1 SHORT: the input ends inside a field or record
+-- The refusals by number.
+
+-- the input ends inside a field or record
 abbrev pub SHORT : ℕ
 SHORT = 1
 
--- 3 FIELD: a value its field forbids
+-- the first word differs
+abbrev pub TAG : ℕ
+TAG = 2
+
+-- a value its field forbids
 abbrev pub FIELD : ℕ
 FIELD = 3
+
+-- words remain
+abbrev pub LEFT : ℕ
+LEFT = 5

@@ -1,0 +1,16 @@
+-- The count is there, or the input ends.
+use Rattle.words.proofs.Laws.{counting}
+use Rattle.layout.proofs.readers.read_accepts.Statement.{statement}
+use Rattle.layout.proofs.readers.read_accepts.Tie as tie
+
+pub read-accepts-spec : {M : Type 1} → statement M
+read-accepts-spec =
+    tie.close
+    (tie.spec
+    (λ c κs. search counting)
+    (λ c. search counting)
+    (λ c. search counting)
+    (λ c. search counting)
+    (λ c. search counting)
+    (λ c κs. search counting)
+    (λ c. search counting))

@@ -1,0 +1,10 @@
+-- The numbers that document 01 fixes.
+use Prim.Native.Nat.{ℕ}
+
+-- "NONE below is 4294967295"
+abbrev pub NONE : ℕ
+NONE = 4294967295
+
+-- "`SERIALIZED_TAG` 0x4C440001"
+abbrev pub tag : ℕ
+tag = 0x4C440001

@@ -1,0 +1,11 @@
+-- The tests are the definition's.
+use Rattle.rules.specs.Rules.{good}
+use Rattle.rules.proofs.good.Statement.{statement}
+use Rattle.rules.proofs.good.Tie as tie
+
+returns : tie.Need-returns
+unfolding good
+returns c = cc
+
+pub good-spec : {M : Type 1} → statement M
+good-spec = tie.close (tie.spec returns)
