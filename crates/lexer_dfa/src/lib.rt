@@ -17,6 +17,8 @@ pub use ascii_run::scan;
 pub use ascii_run::scan_length;
 pub use ascii_run::serialized_words;
 pub use ascii_run::write_serialized;
+pub use codec::Decoded;
+pub use codec::decode;
 pub use range_class::AsciiRangeClass;
 pub use range_class::ByteClass;
 pub use range_class::RangeClass;

@@ -20,6 +20,18 @@ TAG = 2
 abbrev pub FIELD : ℕ
 FIELD = 3
 
+-- over 8,192 words, 256 transitions or 1,024 intervals
+abbrev pub LIMIT : ℕ
+LIMIT = 4
+
 -- words remain
 abbrev pub LEFT : ℕ
 LEFT = 5
+
+-- an index rule is broken
+abbrev pub INDEX : ℕ
+INDEX = 6
+
+-- a lent buffer is shorter than stated
+abbrev pub ROOM : ℕ
+ROOM = 7

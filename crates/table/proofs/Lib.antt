@@ -3,3 +3,12 @@ pub mod Runs
 pub mod Records
 pub mod Accepted
 pub mod Unique
+pub mod Placed
+pub mod Judged
+pub mod Classified
+pub mod Obeyed
+pub mod Agree
+pub mod Ends
+pub mod Fronted
+pub mod Fronts
+pub mod Refusals

@@ -15,7 +15,7 @@ use Rattle.table.proofs.Codec.{Codec, Always, of-fields, paired, mapped
 
 -- Modes
 
-or-split : (a b : Bool) → (a || b) ≡ true → (a ≡ true) ⊎ (b ≡ true)
+pub or-split : (a b : Bool) → (a || b) ≡ true → (a ≡ true) ⊎ (b ≡ true)
 or-split true b e = inl refl
 or-split false b e = inr e
 
@@ -27,7 +27,7 @@ start-made m e = go (or-split (leb m 65535) (eqb m NONE) e)
     go (inl u) = inl (leb-true _ _ u)
     go (inr u) = inr (eqb-true _ _ u)
 
-or-right : (a : Bool) → (a || true) ≡ true
+pub or-right : (a : Bool) → (a || true) ≡ true
 or-right true = refl
 or-right false = refl
 

@@ -49,30 +49,30 @@ module _ (a b c d : ℕ) (ha : a < 256) (hb : b < 256) (hc : c < 256) where
 four : (y : ℕ) → y % 256 + 256 * (y / 256 % 256 + 256 * (y / 65536 % 256 + 256 * (y / 16777216))) ≡ y
 four y = omega arith
 
-list1 : {x y : ℕ} → x ≡ y → x ∷ [] ≡ y ∷ []
+pub list1 : {x y : ℕ} → x ≡ y → x ∷ [] ≡ y ∷ []
 list1 e = cc
 
-list3 : {x y z a b c : ℕ} → a ≡ x → b ≡ y → c ≡ z → a ∷ b ∷ c ∷ [] ≡ x ∷ y ∷ z ∷ []
+pub list3 : {x y z a b c : ℕ} → a ≡ x → b ≡ y → c ≡ z → a ∷ b ∷ c ∷ [] ≡ x ∷ y ∷ z ∷ []
 list3 e f g = cc
 
 -- What is read at a place, by what stands there
 
-read-nothing : {w : List ℕ} {at : ℕ} → At w at [] → readAt w at ≡ refused SHORT (length w)
+pub read-nothing : {w : List ℕ} {at : ℕ} → At w at [] → readAt w at ≡ refused SHORT (length w)
 unfolding readAt
 read-nothing {w} {at} p = let h : length w ≤ at = omega (arith, at-length p) in rw (le-ltb at (length w) h)
 
-read-short : {w post : List ℕ} {at x : ℕ} → At w at (x ∷ post) → (kindOf x ≡ 5 → ⊥) → readAt w at ≡ shortRun at (kindOf x) (bytesOf x)
+pub read-short : {w post : List ℕ} {at x : ℕ} → At w at (x ∷ post) → (kindOf x ≡ 5 → ⊥) → readAt w at ≡ shortRun at (kindOf x) (bytesOf x)
 unfolding readAt
 read-short {w} {at = at} {x = x} p n = let l : at < length w = omega (arith, at-length p) in rw (lt-ltb at (length w) l, at-head p, ne-eqb (kindOf x) 5 n)
 
-read-cut : {w post : List ℕ} {at x : ℕ} → At w at (x ∷ post) → length post < 2 → kindOf x ≡ 5 → readAt w at ≡ refused SHORT (length w)
+pub read-cut : {w post : List ℕ} {at x : ℕ} → At w at (x ∷ post) → length post < 2 → kindOf x ≡ 5 → readAt w at ≡ refused SHORT (length w)
 unfolding readAt
 read-cut {w} {post} {at = at} {x = x} p h k =
     let l : at < length w = omega (arith, at-length p) in
     let m : length w < at + 3 = omega (arith, at-length p) in
     rw (lt-ltb at (length w) l, at-head p, eq-eqb (kindOf x) 5 k, lt-leb (at + 3) (length w) m)
 
-read-long : {w post : List ℕ} {at x y z : ℕ} → At w at (x ∷ y ∷ z ∷ post) → kindOf x ≡ 5 → readAt w at ≡ rangesRun at (rangesOfRun x (record { first = y; second = z }))
+pub read-long : {w post : List ℕ} {at x y z : ℕ} → At w at (x ∷ y ∷ z ∷ post) → kindOf x ≡ 5 → readAt w at ≡ rangesRun at (rangesOfRun x (record { first = y; second = z }))
 unfolding readAt
 read-long {w} {post} {at} {x} {y} {z} p k =
     let l : at < length w = omega (arith, at-length p) in
@@ -278,7 +278,7 @@ short-made at (suc (suc (suc (suc (suc k))))) a b c e = absurd (no-kind at (suc 
 
 -- a run of three words, by its ranges
 
-ordered-in : (least : ℕ) (rs : List AsciiRange) → ordered least rs ≡ true → InOrder least rs
+pub ordered-in : (least : ℕ) (rs : List AsciiRange) → ordered least rs ≡ true → InOrder least rs
 unfolding InOrder ordered
 ordered-in least [] e = tt
 ordered-in least (r ∷ rs) e =

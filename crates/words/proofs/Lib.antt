@@ -1,3 +1,4 @@
 pub mod Laws
 pub mod Forms
 pub mod Runs
+pub mod Bounds

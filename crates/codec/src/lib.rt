@@ -1,0 +1,60 @@
+// Words to table: decoding judges a list of words and fills the room that the lookups read.
+ghost use mathlib.Core.Path.{_≡_};
+ghost use lib.ListN.{length};
+ghost use Rattle.codec.specs.Decode.{decodeOf, roomOf};
+use layout::Sections;
+use refusal::INDEX;
+use refusal::Refusal;
+
+// A table, by the number of its modes, states and words, or why the words are none.
+pub enum Decoded {
+    Table {
+        modes: u32,
+        states: u32,
+        words: usize,
+    },
+    Refused(Refusal),
+}
+
+// Decodes a table into the room. Refused: every number of the room is 0. Accepted: the table's numbers, then zeros.
+pub fn decode(words: &[u32], room: &mut [u32]) -> Decoded
+    ensures { λ r. ⌜ (r ≡ decodeOf (now (words .entry)) (length (now (room .entry)))) × (now (room .exit) ≡ roomOf (now (words .entry)) (length (now (room .entry)))) ⌝ }
+{
+    match room::fill(words, room) {
+        Sections::Found {
+            modes,
+            states,
+            runs,
+            ascii_rows,
+            wide_rows,
+            accepts,
+            escape_rows,
+            continuations,
+        } => {
+            let rule = rules::first_broken(
+                words,
+                modes,
+                states,
+                runs,
+                ascii_rows,
+                wide_rows,
+                accepts,
+                escape_rows,
+                continuations,
+            );
+            if rule == 0 {
+                return Decoded::Table {
+                    modes: words[modes],
+                    states: words[states],
+                    words: words.len(),
+                };
+            }
+            room::clear(room);
+            Decoded::Refused(Refusal {
+                number: INDEX,
+                place: rule as usize,
+            })
+        }
+        Sections::Unfound(r) => Decoded::Refused(r),
+    }
+}

@@ -1,0 +1,4 @@
+pub mod Writing
+pub mod Records
+pub mod Sizes
+pub mod Tables

@@ -1,0 +1,18 @@
+-- The count is stored, and the records written behind it.
+use Rattle.room.proofs.Writing.{renewing}
+use Rattle.room.proofs.renew.renew_configs.Statement.{statement}
+use Rattle.room.proofs.renew.renew_configs.Tie as tie
+
+pub renew-configs-spec : {M : Type 1} → statement M
+renew-configs-spec =
+    tie.close
+    (tie.spec
+    (λ c. search renewing)
+    (λ c. search renewing)
+    (λ c. search renewing)
+    (λ c. search renewing)
+    (λ c. search renewing)
+    (λ c. search renewing)
+    (λ c κs. search renewing)
+    (λ c. search renewing)
+    (λ c. search renewing))

@@ -1,0 +1,109 @@
+-- The room of a table: a header of nine numbers, the words with flags made 0 or 1, and where each record of variable length starts.
+-- Below, w are the words, and m s r a v x e c the places of the counts of modes, states, runs, ascii rows, wide rows, accepts, escape
+-- rows and continuations. Assumes nothing.
+use Prim.Native.Nat.{ℕ, zero, suc, _+_, _*_, _-_}
+use mathlib.Core.List.{List, [], _∷_, _++_}
+use lib.ListN.{length, getD, take, drop}
+use lib.Dec.{eqb, ltb}
+use Rattle.refusal.specs.Said.{LIMIT, ROOM}
+use Rattle.refusal.specs.Lists.{pick}
+use Rattle.words.specs.declared.Place.{Place}
+use Rattle.words.specs.declared.Place.the-variants.{Next, Refused}
+use Rattle.words.specs.Records.{runAt, wideAt, acceptAt, escapeAt, configAt, continuationAt}
+use Rattle.layout.specs.declared.Sections.{Sections}
+use Rattle.layout.specs.declared.Sections.the-variants.{Found, Unfound}
+use Rattle.layout.specs.Layout.{unfound, layoutOf}
+use Rattle.written.specs.Over.{zeros, padded}
+
+-- Records, one behind the other
+
+-- where each of n records starts
+unfoldable pub startsFrom : Place → ℕ → (ℕ → List ℕ) → List ℕ
+startsFrom (Next p) at k = at ∷ k p
+startsFrom (Refused r) at k = []
+
+unfoldable pub starts : (ℕ → Place) → ℕ → ℕ → List ℕ
+starts f zero at = []
+starts f (suc n) at = startsFrom (f at) at (starts f n)
+
+-- what is written for each, one behind the other
+unfoldable pub each : (ℕ → List ℕ) → List ℕ → List ℕ
+each f [] = []
+each f (p ∷ ps) = f p ++ each f ps
+
+-- n words from a place
+unfoldable pub copied : List ℕ → ℕ → ℕ → List ℕ
+copied w at n = take n (drop at w)
+
+-- "A flag is any word; nonzero means set": 0 or 1
+unfoldable pub flag : ℕ → ℕ
+flag x = pick (eqb x 0) 0 1
+
+-- The words, with flags made 0 or 1
+
+-- a section whose count stands at `at`: its count, and what is written for each record
+unfoldable pub renewed : (List ℕ → ℕ → Place) → (List ℕ → ℕ → List ℕ) → List ℕ → ℕ → List ℕ
+renewed read f w at = getD w at 0 ∷ each (f w) (starts (read w) (getD w at 0) (at + 1))
+
+-- an accept: its rule, its flag, its actions with their count
+unfoldable pub acceptMade : List ℕ → ℕ → List ℕ
+acceptMade w s = getD w s 0 ∷ flag (getD w (s + 1) 0) ∷ copied w (s + 2) (getD w (s + 2) 0 * 3 + 1)
+
+-- a config: its state and rule, its two flags, its context, its actions with their count
+unfoldable pub configMade : List ℕ → ℕ → List ℕ
+configMade w s =
+    getD w s 0 ∷ getD w (s + 1) 0 ∷ flag (getD w (s + 2) 0) ∷ flag (getD w (s + 3) 0) ∷ copied w (s + 4) (getD w (s + 5) 0 * 3 + 2)
+
+-- a continuation: its contexts with their count, as they are, and its configs
+unfoldable pub continuationMade : List ℕ → ℕ → List ℕ
+continuationMade w s = copied w s (getD w s 0 * 3 + 1) ++ renewed configAt configMade w (s + (getD w s 0 * 3 + 1))
+
+-- all sections: only accepts and continuations have flags
+unfoldable pub laterMade : List ℕ → ℕ → ℕ → List ℕ
+laterMade w e c = copied w e (c - e) ++ renewed continuationAt continuationMade w c
+
+unfoldable pub made : List ℕ → ℕ → ℕ → ℕ → List ℕ
+made w x e c = copied w 0 x ++ (renewed acceptAt acceptMade w x ++ laterMade w e c)
+
+-- Places in the room: the words stand behind the header
+
+abbrev pub shifted : ℕ → List ℕ
+shifted p = (p + 9) ∷ []
+
+-- where the records of a section start
+unfoldable pub placed : (List ℕ → ℕ → Place) → List ℕ → ℕ → List ℕ
+placed read w at = each shifted (starts (read w) (getD w at 0) (at + 1))
+
+abbrev pub four : ℕ → ℕ → ℕ → ℕ → List ℕ
+four a b c d = (a + 9) ∷ (b + 9) ∷ (c + 9) ∷ (d + 9) ∷ []
+
+-- the word count, and where the sections' counts stand
+unfoldable pub header : List ℕ → ℕ → ℕ → ℕ → ℕ → ℕ → ℕ → ℕ → ℕ → List ℕ
+header w m s r a v x e c = length w ∷ (four m s r a ++ four v x e c)
+
+-- where the accepts, the escape rows and the continuations start
+unfoldable pub laterPlaces : List ℕ → ℕ → ℕ → ℕ → List ℕ
+laterPlaces w x e c = placed acceptAt w x ++ (placed escapeAt w e ++ placed continuationAt w c)
+
+-- and before them the runs and the wide rows
+unfoldable pub places : List ℕ → ℕ → ℕ → ℕ → ℕ → ℕ → List ℕ
+places w r v x e c = placed runAt w r ++ (placed wideAt w v ++ laterPlaces w x e c)
+
+-- the words, and the places behind them
+unfoldable pub body : List ℕ → ℕ → ℕ → ℕ → ℕ → ℕ → List ℕ
+body w r v x e c = made w x e c ++ places w r v x e c
+
+-- all numbers of a table
+unfoldable pub numbers : List ℕ → ℕ → ℕ → ℕ → ℕ → ℕ → ℕ → ℕ → ℕ → List ℕ
+numbers w m s r a v x e c = header w m s r a v x e c ++ body w r v x e c
+
+-- What filling answers, and leaves in a room of n numbers
+
+-- "Decoding: ROOM (table room under 16,384 numbers), LIMIT, then words in order, LEFT"
+unfoldable pub laidOut : List ℕ → ℕ → Sections
+laidOut w n = pick (ltb n 16384) (unfound ROOM 0) (pick (ltb 8192 (length w)) (unfound LIMIT 8192) (layoutOf w))
+
+-- "Refused: all outputs zero. Accepted: outputs past the answer's length zero."
+unfoldable pub roomFor : List ℕ → ℕ → Sections → List ℕ
+roomFor w n (Found m s r a v x e c) = padded n (numbers w m s r a v x e c)
+roomFor w n (Unfound r) = zeros n

@@ -1,0 +1,85 @@
+-- When the layout refuses words (document 01, "Refusals by number"), in terms of tables: words begin a table, or they do not.
+use Prim.Native.Nat.{ℕ, _+_, _≤_, _<_, _%_}
+use mathlib.Core.Path.{_≡_}
+use mathlib.Core.List.{List, _∷_, _++_}
+use mathlib.Core.Logic.{_⊎_}
+use lib.ListN.{length, getD, take}
+use Rattle.refusal.specs.declared.Refusal.{Refusal}
+use Rattle.refusal.specs.Said.{SHORT, TAG, FIELD, LEFT, ok}
+use Rattle.refusal.specs.Fixed.{tag}
+use Rattle.words.specs.declared.Place.{Place}
+use Rattle.words.specs.declared.Place.the-variants.{Next, Refused}
+use Rattle.words.specs.Records.{runAt, contextAt}
+use Rattle.layout.specs.declared.Sections.the-variants.{Unfound}
+use Rattle.layout.specs.Layout.{said, unfound, layoutOf}
+use Rattle.table.specs.Table.{Table, wordsOf, Fields}
+use Rattle.table.specs.Whole.{wholeAt, Fit}
+
+-- some words behind w make it the words of a table whose fields are allowed
+abbrev pub Begins : List ℕ → Type 0
+Begins w = (t : Table) × (more : List ℕ) × Fields t × (w ++ more ≡ wordsOf t)
+
+-- they do, and at least one word is missing
+abbrev pub Unfinished : List ℕ → Type 0
+Unfinished w = (t : Table) × (more : List ℕ) × Fields t × (w ++ more ≡ wordsOf t) × (1 ≤ length more)
+
+abbrev pub Reader : Type 0
+Reader = List ℕ → ℕ → Place
+
+-- l is read as a record, wherever it stands
+abbrev pub Reads : Reader → List ℕ → Type 0
+Reads read l = (pre post : List ℕ) → read (pre ++ (l ++ post)) (length pre) ≡ Next (length pre + length l)
+
+-- where u ends, a record is due: what refuses the record refuses the whole, and with a record behind it u still begins a table
+pub record Due (read : Reader) (u : List ℕ) : Type 0 where
+  pub refused : (post : List ℕ) (r : Refusal) → read (u ++ post) (length u) ≡ Refused r → wholeAt (u ++ post) ≡ Refused r
+  pub allowed : (l : List ℕ) → Fit (u ++ l) → Reads read l → Begins (u ++ l)
+
+-- "A kind-5 run reads its three words, and a context its three, before FIELD": the reader of such a record, of which x is the first word
+abbrev pub Three : Reader → ℕ → Type 0
+Three read x = ((read ≡ runAt) × (x % 256 ≡ 5)) ⊎ (read ≡ contextAt)
+
+-- such a record is due at p, and opened by the word there
+abbrev pub ThreeAt : List ℕ → ℕ → Type 0
+ThreeAt w p = (read : Reader) × Three read (getD w p 0) × Due read (take p w)
+
+-- "SHORT: the input ends inside a field or record": w begins a table and is not all of it, or ends behind one or two words of such a record
+abbrev pub EndsInside : List ℕ → Type 0
+EndsInside w = Unfinished w ⊎ ((p : ℕ) × (p < length w) × (length w < p + 3) × Begins (take p w) × ThreeAt w p)
+
+-- "TAG: the first word differs"
+abbrev pub Differs : List ℕ → Type 0
+Differs w = (x : ℕ) × (more : List ℕ) × (w ≡ x ∷ more) × (x ≡ tag → ⊥)
+
+-- with the word at p, w begins no table; and that word stands in no such record
+abbrev pub WordForbidden : List ℕ → ℕ → Type 0
+WordForbidden w p = (p < length w) × (Begins (take (p + 1) w) → ⊥) × ((q : ℕ) → q ≤ p → p < q + 3 → ThreeAt w q → ⊥)
+
+-- with the three words of such a record at p, w begins no table
+abbrev pub ThreeForbidden : List ℕ → ℕ → Type 0
+ThreeForbidden w p = (p + 3 ≤ length w) × (Begins (take (p + 3) w) → ⊥) × ThreeAt w p
+
+-- "FIELD: a value its field forbids": behind the tag, w begins a table up to p, and goes on so
+abbrev pub Forbids : List ℕ → ℕ → Type 0
+Forbids w p = (1 ≤ p) × Unfinished (take p w) × (WordForbidden w p ⊎ ThreeForbidden w p)
+
+-- w is the words of a table whose fields are allowed
+abbrev pub IsTable : List ℕ → Type 0
+IsTable w = (t : Table) × Fields t × (w ≡ wordsOf t)
+
+-- w opens with the words of a table, which end at p
+abbrev pub Opens : List ℕ → ℕ → Type 0
+Opens w p = (t : Table) × (more : List ℕ) × Fields t × (w ≡ wordsOf t ++ more) × (length (wordsOf t) ≡ p)
+
+abbrev pub Exactly : Type 0 → Type 0 → Type 0
+Exactly A B = (A → B) × (B → A)
+
+-- "Given exactly when", and "Place returned", of the layout of w
+pub record Refusals (w : List ℕ) : Type 0 where
+  pub found : Exactly ((l : List ℕ) × (said (layoutOf w) ≡ ok l)) (IsTable w)
+  pub short : (p : ℕ) → Exactly (layoutOf w ≡ unfound SHORT p) ((p ≡ length w) × EndsInside w)
+  pub differs : (p : ℕ) → Exactly (layoutOf w ≡ unfound TAG p) ((p ≡ 0) × Differs w)
+  pub field : (p : ℕ) → Exactly (layoutOf w ≡ unfound FIELD p) (Forbids w p)
+  -- "LEFT: words remain"
+  pub left : (p : ℕ) → Exactly (layoutOf w ≡ unfound LEFT p) ((p < length w) × Opens w p)
+  pub no-other : (r : Refusal) → layoutOf w ≡ Unfound r → (r .number ≡ SHORT) ⊎ (r .number ≡ TAG) ⊎ (r .number ≡ FIELD) ⊎ (r .number ≡ LEFT)

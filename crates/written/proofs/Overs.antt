@@ -1,0 +1,74 @@
+-- The laws of writing a list over a part of another. Assumes nothing.
+use mathlib.Core.Path.{_≡_, refl, sym, ap, _∙_}
+use mathlib.Core.List.{List, [], _∷_, _++_, append-nil}
+use Prim.Native.Nat.{ℕ, zero, suc, _+_, _-_, _<_, _≤_}
+use native.Mathlib.Nat.{not-suc-le-zero, le-of-suc-le-suc, add-zero}
+use native.Mathlib.Numerals.{add-one}
+use native.Mathlib.Omega.{arith}
+use borrow.Author.Needs.{needs}
+use borrow.Author.Fill.{fill-more}
+use lib.ListN.{length, take, drop, set, replicate, length-append, length-take, length-drop, length-set}
+use lib.Seq.{drop-length}
+use Rattle.written.specs.Over.{over, lay, zeros, padded}
+
+pub over-length : (xs d : List ℕ) → length (over xs d) ≡ length d
+unfolding over
+over-length [] d = refl
+over-length (x ∷ xs) [] = refl
+over-length (x ∷ xs) (y ∷ d) = ap suc (over-length xs d)
+
+pub lay-length : (n : ℕ) (xs d : List ℕ) → length (lay n xs d) ≡ length d
+unfolding lay
+lay-length n xs d = omega (arith, length-append (take n d) (over xs (drop n d)), over-length xs (drop n d), length-take n d, length-drop n d)
+
+-- nothing laid changes nothing
+pub lay-none : (n : ℕ) (d : List ℕ) → lay n [] d ≡ d
+unfolding lay over
+lay-none zero d = refl
+lay-none (suc n) [] = refl
+lay-none (suc n) (y ∷ d) = ap (λ (l : List ℕ). y ∷ l) (lay-none n d)
+
+lay-suc : (n x : ℕ) (xs d : List ℕ) → n < length d → lay (suc n) xs (set d n x) ≡ lay n (x ∷ xs) d
+unfolding lay over
+lay-suc n x xs [] h = absurd (not-suc-le-zero h)
+lay-suc zero x xs (y ∷ d) h = refl
+lay-suc (suc n) x xs (y ∷ d) h = ap (λ (l : List ℕ). y ∷ l) (lay-suc n x xs d (le-of-suc-le-suc h))
+
+-- one number stored is one laid
+pub lay-put : (n x : ℕ) (xs d : List ℕ) → n < length d → lay (n + 1) xs (set d n x) ≡ lay n (x ∷ xs) d
+lay-put n x xs d h = rw add-one (lay-suc n x xs d h)
+
+-- laid behind what was laid
+pub lay-lay : (n : ℕ) (xs ys d : List ℕ) → n + length xs ≤ length d → lay (n + length xs) ys (lay n xs d) ≡ lay n (xs ++ ys) d
+lay-lay n [] ys d h = rw (lay-none, add-zero)
+lay-lay n (x ∷ xs) ys d h =
+    let l : n < length d = omega arith in
+    let s : length (set d n x) ≡ length d = length-set d n x in
+    let m : n + length (x ∷ xs) ≡ n + 1 + length xs = omega arith in
+    ap (λ (k : ℕ). lay k ys (lay n (x ∷ xs) d)) m
+    ∙ ap (λ (t : List ℕ). lay (n + 1 + length xs) ys t) (sym (lay-put n x xs d l))
+    ∙ lay-lay (n + 1) xs ys (set d n x) (omega arith)
+    ∙ lay-put n x (xs ++ ys) d l
+
+-- written over zeros
+over-zeros : (n : ℕ) (xs : List ℕ) → length xs ≤ n → over xs (zeros n) ≡ padded n xs
+unfolding over padded
+over-zeros n [] h = let e : n - 0 ≡ n = omega arith in rw e
+over-zeros zero (x ∷ xs) h = absurd (not-suc-le-zero h)
+over-zeros (suc n) (x ∷ xs) h =
+    let e : suc n - suc (length xs) ≡ n - length xs = omega arith in
+    rw e (ap (λ (l : List ℕ). x ∷ l) (over-zeros n xs (le-of-suc-le-suc h)))
+
+pub lay-zeros : (n : ℕ) (xs : List ℕ) → length xs ≤ n → lay 0 xs (zeros n) ≡ padded n xs
+unfolding lay
+lay-zeros n xs h = over-zeros n xs h
+
+-- The loop that makes all numbers 0: those before n are 0, the others as they were
+
+pub clear-turn : (n : ℕ) (d : List ℕ) {l : List ℕ} → n < length l → length l ≡ length d → l ≡ replicate n 0 ++ drop n d → set l n 0 ≡ replicate (n + 1) 0 ++ drop (n + 1) d
+clear-turn n d h k e = ap (λ (l : List ℕ). set l n 0) e ∙ fill-more n 0 d (omega arith)
+
+pub clear-done : (n : ℕ) (d : List ℕ) {l : List ℕ} → length l ≤ n → length l ≡ length d → n ≤ length d → l ≡ replicate n 0 ++ drop n d → l ≡ zeros (length d)
+clear-done n d h k m e = let i : n ≡ length d = omega arith in e ∙ (rw (i, drop-length, append-nil))
+
+pub ruleset clearing = (needs, clear-turn, clear-done)
