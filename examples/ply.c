@@ -1,6 +1,7 @@
 /*
  * Ply 10 must not arrive as ply 1 and a stray 0: classifies the row of a state that loops on
- * digits, and skips the ply's number with its run. rust/lexer-dfa/examples/ply.rs prints the same.
+ * digits, and skips the ply's number with its run; then decodes a table of one state.
+ * rust/lexer-dfa/examples/ply.rs prints the same.
  *
  *     rt staticlib lexer_dfa_c
  *     gcc -O2 -Iinclude examples/ply.c target/staticlib/liblexer_dfa_c.a -o target/ply
@@ -17,6 +18,28 @@ static int refused(uint32_t number, size_t place)
 {
     printf("refusal %u at %zu\n", (unsigned)number, place);
     return 1;
+}
+
+/* One mode, and one state that loops on every ASCII symbol: the tag, then the eight sections. */
+static int decode_a_table(void)
+{
+    const uint32_t dead = 65535, none = 0xFFFFFFFF;
+    const uint32_t front[] = {LEXER_DFA_TABLE_TAG, 1, 0, 1, 0, 0, dead, none, 1, 1, 1};
+    const uint32_t back[] = {1, 0, 0, 1, none, 0, 0};
+    static uint32_t words[82]; /* the row between them is all 0 */
+    static uint32_t room[LEXER_DFA_ROOM_NUMBERS];
+    memcpy(words, front, sizeof front);
+    memcpy(words + 75, back, sizeof back);
+
+    DecodeAnswer table = lexer_dfa_decode(words, 82, room, LEXER_DFA_ROOM_NUMBERS);
+    if (table.number != LEXER_DFA_ACCEPTED)
+        return refused(table.number, table.place);
+    printf("table: modes %u, states %u, words %zu\n", (unsigned)table.modes,
+           (unsigned)table.states, table.words);
+    DecodeAnswer cut = lexer_dfa_decode(words, 81, room, LEXER_DFA_ROOM_NUMBERS);
+    if (cut.number == LEXER_DFA_SHORT)
+        printf("81 words: refusal %u SHORT at %zu\n", (unsigned)cut.number, cut.place);
+    return 0;
 }
 
 int main(void)
@@ -62,5 +85,5 @@ int main(void)
     RunAnswer wrong = lexer_dfa_classify(row, 127, 7);
     if (wrong.number == LEXER_DFA_FIELD)
         printf("127 targets: refusal %u FIELD at %zu\n", (unsigned)wrong.number, wrong.place);
-    return 0;
+    return decode_a_table();
 }

@@ -1,5 +1,5 @@
 /*
- * The proved lexer DFA table core for C: ASCII ranges and runs.
+ * The proved lexer DFA table core for C: ASCII ranges and runs, and the decoding of tables.
  *
  * The functions stand in target/staticlib/liblexer_dfa_c.a, which `rt staticlib lexer_dfa_c`
  * writes (x86-64).
@@ -7,10 +7,12 @@
  * Every call takes all words, bytes and lengths and ends with its answer or with one numbered
  * refusal; there is nothing to check first. A list is passed as pointer and length. The pointer
  * must be the address of that many numbers, or any address that is not null and is aligned where
- * the length is 0. Nothing is kept after the call and nothing is written.
+ * the length is 0. Nothing is kept after the call. Nothing is written but what is passed without
+ * `const`: a room, which may not overlap the other lists of the call, and which is written as far
+ * as its length and no further.
  *
  * An answer's `number` is 0 where the call was accepted. Else it is the refusal's number, `place`
- * tells where, and every other field is 0.
+ * tells where, every other field is 0, and so is every number of a room.
  */
 #ifndef LEXER_DFA_H
 #define LEXER_DFA_H
@@ -25,8 +27,13 @@ extern "C" {
 /* Refusals. */
 enum {
     LEXER_DFA_ACCEPTED = 0,
-    LEXER_DFA_SHORT = 1, /* the words end inside a run; place: the number of words */
-    LEXER_DFA_FIELD = 3  /* a value that its field forbids; place: told by each call */
+    LEXER_DFA_SHORT = 1, /* the words end inside a run or a table; place: the number of words */
+    LEXER_DFA_TAG = 2,   /* the first word is not LEXER_DFA_TABLE_TAG; place: 0 */
+    LEXER_DFA_FIELD = 3, /* a value that its field forbids; place: told by each call */
+    LEXER_DFA_LIMIT = 4, /* more than LEXER_DFA_MAX_WORDS words; place: 8192 */
+    LEXER_DFA_LEFT = 5,  /* words remain behind the table; place: the first of them */
+    LEXER_DFA_INDEX = 6, /* an index rule is broken; place: the first such rule, 1 to 9 */
+    LEXER_DFA_ROOM = 7   /* a room is too short; place: 0 */
 };
 
 /* What a byte is. */
@@ -99,6 +106,27 @@ typedef struct {
 /* Scans with the run whose words these are. Words that are not exactly one run's are FIELD at 0. */
 ScanAnswer lexer_dfa_scan(const uint32_t *words, size_t len, const uint8_t *input,
                           size_t input_len);
+
+#define LEXER_DFA_TABLE_TAG 0x4C440001u
+#define LEXER_DFA_MAX_WORDS 8192
+#define LEXER_DFA_ROOM_NUMBERS 16384
+
+/* How many modes and states a table has, and how many words. */
+typedef struct {
+    uint32_t number;
+    size_t place;
+    uint32_t modes;
+    uint32_t states;
+    size_t words;
+} DecodeAnswer;
+
+/*
+ * Decodes a table into a room of at least LEXER_DFA_ROOM_NUMBERS numbers; what it held before does
+ * not matter. Accepted, it holds the table's numbers, then zeros. Judged in this order: ROOM,
+ * LIMIT, then SHORT, TAG and FIELD (at its word) in the order of the words, LEFT, INDEX.
+ */
+DecodeAnswer lexer_dfa_decode(const uint32_t *words, size_t len, uint32_t *room,
+                              size_t room_len);
 
 #ifdef __cplusplus
 }

@@ -49,7 +49,7 @@ pub fn decode(words: &[u32], room: &mut [u32]) -> Decoded
                     words: words.len(),
                 };
             }
-            room::clear(room);
+            written::clear(room);
             Decoded::Refused(Refusal {
                 number: INDEX,
                 place: rule as usize,

@@ -23,9 +23,11 @@ use Rattle.ascii_run.specs.Shape.{shapeOf, Got, run, refused, Gives}
 use Rattle.ascii_run.specs.Words.{wordsOf}
 use Rattle.ascii_run.specs.Scan.{bit, said, scanSaid}
 use Rattle.ascii_run.proofs.Answers.{given}
+use Rattle.codec.specs.declared.Decoded.{Decoded}
+use Rattle.codec.specs.declared.Decoded.the-variants as decoded
 use Rattle.lexer_dfa_c.specs.declared.CRun.{CRun}
 use Rattle.lexer_dfa_c.specs.declared.CScan.{CScan}
-use Rattle.lexer_dfa_c.specs.Answers.{classInC, wordsC, refusedRun, answeredInC, runInC, scanInC, refusedScan, scanGot}
+use Rattle.lexer_dfa_c.specs.Answers.{classInC, wordsC, refusedRun, answeredInC, runInC, scanInC, refusedScan, scanGot, decodedInC}
 
 -- a class's number, or its refusal
 module _ {a : RangeClass} (s : Said) where
@@ -76,4 +78,12 @@ module _ (bs : List ℕ) {q : RunAnswer} where
       let m : x ≡ record { number = n; place = p } = cc in
       rw m
 
-pub ruleset calling = (needs, class-number, class-refused, words-ran, words-refused, run-in-c, scan-none, scan-skipped, scan-run, scan-refused)
+-- a table's counts, or its refusal
+module _ (x : Decoded) {a : Decoded} where
+  pub decoded-table : {m s n : ℕ} → a ≡ x → a ≡ decoded.Table m s n → record { number = 0; place = 0; modes = m; states = s; words = n } ≡ decodedInC x
+  decoded-table h e = rw (← h, e)
+
+  pub decoded-refused : {r : Refusal} → a ≡ x → a ≡ decoded.Refused r → record { number = r .number; place = r .place; modes = 0; states = 0; words = 0 } ≡ decodedInC x
+  decoded-refused h e = rw (← h, e)
+
+pub ruleset calling = (needs, decoded-table, decoded-refused, class-number, class-refused, words-ran, words-refused, run-in-c, scan-none, scan-skipped, scan-run, scan-refused)

@@ -5,10 +5,13 @@ ghost use Rattle.ascii_run.specs.Scan.{bit, said};
 ghost use Rattle.range_class.specs.Class.{byteClass, byteNumber, classNumber, classSaid};
 ghost use Rattle.ascii_run.specs.Classify.{classified};
 ghost use Rattle.ascii_run.specs.Words.{readAt};
-ghost use Rattle.lexer_dfa_c.specs.Answers.{answeredInC, runInC, scanInC, scanCall, classInC};
+ghost use lib.ListN.{length};
+ghost use Rattle.codec.specs.Decode.{decodeOf, roomOf};
+ghost use Rattle.lexer_dfa_c.specs.Answers.{answeredInC, runInC, scanInC, scanCall, classInC, decodedInC};
 use lexer_dfa::Answered;
 use lexer_dfa::AsciiRangeClass;
 use lexer_dfa::ByteClass;
+use lexer_dfa::Decoded;
 use lexer_dfa::RangeClass;
 use lexer_dfa::Run;
 use lexer_dfa::RunAnswer;
@@ -42,6 +45,16 @@ pub struct CScan {
     pub ran: u32,
     pub bytes: usize,
     pub found_exit: u32,
+}
+
+// A table by the number of its modes, states and words.
+#[repr(C)]
+pub struct CDecoded {
+    pub number: u32,
+    pub place: usize,
+    pub modes: u32,
+    pub states: u32,
+    pub words: usize,
 }
 
 fn byte_number(class: ByteClass) -> u32
@@ -187,6 +200,34 @@ pub extern "C" fn lexer_dfa_scan(words: &[u32], input: &[u8]) -> CScan
             ran: 0,
             bytes: 0,
             found_exit: 0,
+        },
+    }
+}
+
+// Decodes a table into the room, which is all zeros where the words are none.
+#[no_mangle]
+pub extern "C" fn lexer_dfa_decode(words: &[u32], room: &mut [u32]) -> CDecoded
+    ensures { λ r. ⌜ (r ≡ decodedInC (decodeOf (now (words .entry)) (length (now (room .entry))))) × (now (room .exit) ≡ roomOf (now (words .entry)) (length (now (room .entry)))) ⌝ }
+{
+    let answer = lexer_dfa::decode(words, room);
+    match answer {
+        Decoded::Table {
+            modes,
+            states,
+            words,
+        } => CDecoded {
+            number: 0,
+            place: 0,
+            modes,
+            states,
+            words,
+        },
+        Decoded::Refused(refusal) => CDecoded {
+            number: refusal.number,
+            place: refusal.place,
+            modes: 0,
+            states: 0,
+            words: 0,
         },
     }
 }

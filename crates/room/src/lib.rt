@@ -2,7 +2,6 @@
 // 1, and where each record of variable length starts (docs/ARCHITECTURE.md, "The room").
 ghost use mathlib.Core.Path.{_≡_};
 ghost use lib.ListN.{length};
-ghost use Rattle.written.specs.Over.{zeros};
 ghost use Rattle.room.specs.Room.{laidOut, roomFor};
 use layout::Sections;
 use refusal::LIMIT;
@@ -15,23 +14,12 @@ mod places;
 mod renew;
 mod table;
 
-// Makes every number of the room 0.
-pub fn clear(room: &mut [u32])
-    ensures { λ _. ⌜ now (room .exit) ≡ zeros (length (now (room .entry))) ⌝ }
-{
-    let mut i = 0;
-    while i < room.len() {
-        room[i] = 0;
-        i += 1;
-    }
-}
-
 // Fills the room with the numbers of the table whose words these are, and answers where its sections start. Where there is no table,
 // by its layout, the room is all zeros. The index rules are not judged here.
 pub fn fill(words: &[u32], room: &mut [u32]) -> Sections
     ensures { λ r. ⌜ (r ≡ laidOut (now (words .entry)) (length (now (room .entry)))) × (now (room .exit) ≡ roomFor (now (words .entry)) (length (now (room .entry))) r) ⌝ }
 {
-    clear(room);
+    written::clear(room);
     if room.len() < ROOM_NUMBERS {
         return Sections::Unfound(Refusal {
             number: ROOM,

@@ -1,2 +1,16 @@
-// What it is to write a list over a part of another, and the laws of the loops that do so. Only definitions and laws stand here, and
-// no function: the crates that fill a lent buffer share them.
+// What it is to write a list over a part of another, and the laws of the loops that do so: the crates that fill a lent buffer share
+// them. The one function is the loop that every refusal needs.
+ghost use mathlib.Core.Path.{_≡_};
+ghost use lib.ListN.{length};
+ghost use Rattle.written.specs.Over.{zeros};
+
+// Makes every number 0.
+pub fn clear(numbers: &mut [u32])
+    ensures { λ _. ⌜ now (numbers .exit) ≡ zeros (length (now (numbers .entry))) ⌝ }
+{
+    let mut i = 0;
+    while i < numbers.len() {
+        numbers[i] = 0;
+        i += 1;
+    }
+}

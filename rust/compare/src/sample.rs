@@ -9,13 +9,19 @@
 //! | 1 classify | state u16, another target u16, 16 bytes of bits (symbol k loops where bit k % 8 of byte k / 8 is set), number of words u8, the run's words |
 //! | 2 class | three words, answer u8: 0 whitespace, 1 number, 2 identifier, 3 other, 255 refused |
 //! | 3 scan | number of words u8, words, input length u16, input, outcome u8: 0 refused, 1 no run, 2 ran; bytes u16, exit found u8 |
+//! | 4 decode | number of words u8, words, refusal u8: 0 accepted; place u8, modes u8, states u8, words u8, check u32 |
+//!
+//! The check of a room of 16,384 numbers: with a sum that starts at 0, add each number to it in
+//! turn and add up what the sum is after each, all in 32 bits.
+
+mod decode;
 
 use crate::seeded::{Seeded, range_words};
 use oracle::AsciiRangeClass;
 
 const EACH: usize = 600;
 
-/// The whole sample, at most 60,000 bytes.
+/// The whole sample. `replay` reads 65,536 bytes.
 pub fn bytes() -> Vec<u8> {
     let mut from = Seeded::new(1);
     let mut out = Vec::new();
@@ -24,6 +30,8 @@ pub fn bytes() -> Vec<u8> {
         class(&mut from, &mut out);
         scan(&mut from, &mut out);
     }
+    decode::records(&mut out);
+    assert!(out.len() <= 65_536);
     out
 }
 
@@ -36,7 +44,7 @@ fn put_words(words: &[u32], out: &mut Vec<u8>) {
 fn classify(from: &mut Seeded, out: &mut Vec<u8>) {
     let (state, other) =
         from.pick(&[(0, 1), (1, 0), (7, 65535), (65533, 65534), (65534, 65535), (65535, 0)]);
-    let loops = looping(from);
+    let loops = from.looping();
     let row = loops.map(|looping| if looping { state } else { other });
     let words = oracle::run_words(oracle::classify(&row, state));
 
@@ -49,30 +57,6 @@ fn classify(from: &mut Seeded, out: &mut Vec<u8>) {
     }));
     out.push(words.len() as u8);
     put_words(&words, out);
-}
-
-/// Which symbols loop: all but a few, a few ranges, or any.
-fn looping(from: &mut Seeded) -> [bool; 128] {
-    let mut loops = [false; 128];
-    match from.below(8) {
-        0..=2 => {
-            loops = [true; 128];
-            for _ in 0..from.below(6) {
-                loops[from.below(128)] = false;
-            }
-        }
-        3..=6 => {
-            let count = 1 + from.below(5);
-            for (low, high) in from.ranges(count) {
-                loops[usize::from(low)..=usize::from(high)].fill(true);
-            }
-        }
-        _ => {
-            let dense = 1 + from.below(127);
-            loops = loops.map(|_| from.below(128) < dense);
-        }
-    }
-    loops
 }
 
 fn class(from: &mut Seeded, out: &mut Vec<u8>) {

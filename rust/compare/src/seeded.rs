@@ -38,6 +38,30 @@ impl Seeded {
         let bounds = |pair: &[usize]| (pair[0] as u8, (pair[1] - 1) as u8);
         cuts.chunks(2).map(bounds).collect()
     }
+
+    /// Which symbols loop: all but a few, a few ranges, or any.
+    pub fn looping(&mut self) -> [bool; 128] {
+        let mut loops = [false; 128];
+        match self.below(8) {
+            0..=2 => {
+                loops = [true; 128];
+                for _ in 0..self.below(6) {
+                    loops[self.below(128)] = false;
+                }
+            }
+            3..=6 => {
+                let count = 1 + self.below(5);
+                for (low, high) in self.ranges(count) {
+                    loops[usize::from(low)..=usize::from(high)].fill(true);
+                }
+            }
+            _ => {
+                let dense = 1 + self.below(127);
+                loops = loops.map(|_| self.below(128) < dense);
+            }
+        }
+        loops
+    }
 }
 
 /// The three words of the run of these ranges, one to four of them.

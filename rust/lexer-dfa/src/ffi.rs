@@ -2,7 +2,8 @@
 //! the crate is here.
 //!
 //! The proved functions take any words, bytes and lengths. All they ask of a caller is what a
-//! slice gives: a pointer and a length that describe numbers which live, unchanged, for the call.
+//! slice gives: a pointer and a length that describe numbers which live, unchanged, for the call;
+//! and of a room that is written, that the call has it alone.
 
 #[repr(C)]
 pub struct ClassAnswer {
@@ -30,6 +31,15 @@ pub struct ScanAnswer {
     pub found_exit: u32,
 }
 
+#[repr(C)]
+pub struct DecodeAnswer {
+    pub number: u32,
+    pub place: usize,
+    pub modes: u32,
+    pub states: u32,
+    pub words: usize,
+}
+
 unsafe extern "C" {
     safe fn lexer_dfa_class_of_byte(byte: u8) -> u32;
     fn lexer_dfa_class(words: *const u32, len: usize) -> ClassAnswer;
@@ -41,6 +51,12 @@ unsafe extern "C" {
         input: *const u8,
         input_len: usize,
     ) -> ScanAnswer;
+    fn lexer_dfa_decode(
+        words: *const u32,
+        len: usize,
+        room: *mut u32,
+        room_len: usize,
+    ) -> DecodeAnswer;
 }
 
 pub fn class_of_byte(byte: u8) -> u32 {
@@ -66,6 +82,12 @@ pub fn read_run(words: &[u32], at: usize) -> RunAnswer {
 pub fn scan(words: &[u32], input: &[u8]) -> ScanAnswer {
     // SAFETY: both pointers and lengths are those of live slices, only read; all values are taken.
     unsafe { lexer_dfa_scan(words.as_ptr(), words.len(), input.as_ptr(), input.len()) }
+}
+
+pub fn decode(words: &[u32], room: &mut [u32]) -> DecodeAnswer {
+    // SAFETY: the words are a live slice, only read; the room is another, which the call has alone
+    // and writes within its length. All values are taken, and every length of either.
+    unsafe { lexer_dfa_decode(words.as_ptr(), words.len(), room.as_mut_ptr(), room.len()) }
 }
 
 #[cfg(test)]
@@ -96,6 +118,28 @@ mod tests {
             assert_eq!(answer.length, 0);
             assert_eq!([answer.first, answer.second, answer.third], [0; 3]);
         }
+    }
+
+    /// A refused table leaves no number behind, in the answer or in the room.
+    #[test]
+    fn a_refused_table_is_empty() {
+        let words = [0x4C44_0001, 0, 0, 0, 0, 0, 0, 0, 0, 0];
+        for (length, room_length) in [(8, 16_384), (10, 16_384), (9, 16_383), (9, 5), (9, 0)] {
+            let mut room = vec![7; room_length];
+            let answer = decode(&words[..length], &mut room);
+            assert_ne!(answer.number, 0);
+            assert_eq!((answer.modes, answer.states, answer.words), (0, 0, 0));
+            assert!(room.iter().all(|&number| number == 0));
+        }
+    }
+
+    /// An accepted table's place is 0.
+    #[test]
+    fn an_accepted_table_has_its_counts() {
+        let mut room = vec![7; 16_385];
+        let answer = decode(&[0x4C44_0001, 1, u32::MAX, 0, 0, 0, 0, 0, 0, 0], &mut room);
+        assert_eq!((answer.number, answer.place), (0, 0));
+        assert_eq!((answer.modes, answer.states, answer.words), (1, 0, 10));
     }
 
     /// The words behind a run's own are 0, and an accepted answer's place is 0.

@@ -22,7 +22,9 @@ mod class;
 mod ffi;
 mod refusal;
 mod run;
+mod table;
 
 pub use class::{AsciiRangeClass, ByteClass, class, class_of_byte};
 pub use refusal::Refusal;
 pub use run::{AsciiRun, AsciiRunScan, scan};
+pub use table::{Decoded, MAX_WORDS, ROOM_NUMBERS, Table, decode_into};

@@ -2,6 +2,7 @@
 
 pub mod class;
 pub mod classify;
+pub mod decode;
 pub mod examples;
 pub mod read_run;
 pub mod sample;

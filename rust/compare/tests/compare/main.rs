@@ -6,10 +6,14 @@
 //! run. A word runs only the checks whose names have it.
 
 mod byte;
+mod decode;
 mod examples;
+mod lists;
 #[cfg(not(no_oracle))]
 mod live;
 mod refusals;
+mod samples;
+mod tables;
 mod telling;
 
 use std::time::Instant;
@@ -50,6 +54,23 @@ fn checks() -> Vec<(&'static str, Result<Check, String>)> {
         ("scan: every length and exit, by the original", live!(scan::every_exit)),
         ("scan: seeded runs, by the original", live!(scan::seeded)),
         ("scan: wrong words, by the plain reading", Ok(refusals::scan_words)),
+        ("decode: document 01's examples", Ok(decode::examples)),
+        ("decode: seeded tables, by the original", live!(decode::seeded)),
+        ("decode: seeded tables, by the plain reading", Ok(decode::seeded)),
+        ("decode: each word damaged, by the original", live!(decode::each_word_damaged)),
+        ("decode: each word damaged, by the plain reading", Ok(decode::each_word_damaged)),
+        ("decode: broken rules, by the original", live!(decode::broken_rules)),
+        ("decode: broken rules, by the plain reading", Ok(decode::broken_rules)),
+        ("decode: crowded sections, by the original", live!(decode::crowded)),
+        ("decode: crowded sections, by the plain reading", Ok(decode::crowded)),
+        ("decode: every short list, by the original", live!(decode::short_lists)),
+        ("decode: every short list, by the plain reading", Ok(decode::short_lists)),
+        ("decode: every short section, by the original", live!(decode::sections)),
+        ("decode: every short section, by the plain reading", Ok(decode::sections)),
+        ("decode: rooms and lengths, by the plain reading", Ok(decode::rooms_and_lengths)),
+        ("decode: past the limit, by the original", live!(decode::past_the_limit)),
+        ("decode: a table's own room, by the plain reading", Ok(decode::owned)),
+        ("samples: what stands in samples/", Ok(samples::are_written)),
         ("record: the sample of replay, by the original", sample()),
     ]
 }

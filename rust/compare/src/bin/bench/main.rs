@@ -4,6 +4,8 @@
 //!     cargo run --release --bin bench
 
 #[cfg(not(no_oracle))]
+mod decode;
+#[cfg(not(no_oracle))]
 mod runs;
 #[cfg(not(no_oracle))]
 mod timing;
@@ -19,6 +21,7 @@ fn main() {
     println!("|---|---:|---:|---:|");
     runs::scans();
     runs::classifications();
+    decode::decodings();
 }
 
 #[cfg(no_oracle)]

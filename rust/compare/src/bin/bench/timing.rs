@@ -9,20 +9,20 @@ pub const ROUNDS: usize = 201;
 pub fn compare<T, U>(
     name: &str,
     calls: usize,
-    rust: impl Fn(usize) -> T,
-    ours: impl Fn(usize) -> U,
+    mut rust: impl FnMut(usize) -> T,
+    mut ours: impl FnMut(usize) -> U,
 ) {
     let (mut rust_times, mut our_times) = (Vec::new(), Vec::new());
     for _ in 0..ROUNDS {
-        rust_times.push(round(calls, &rust));
-        our_times.push(round(calls, &ours));
+        rust_times.push(round(calls, &mut rust));
+        our_times.push(round(calls, &mut ours));
     }
     let (rust, ours) = (median(rust_times), median(our_times));
     println!("| {name} | {rust:.1} | {ours:.1} | {:.2} |", ours / rust);
 }
 
 /// Nanoseconds for one call.
-fn round<T>(calls: usize, side: impl Fn(usize) -> T) -> f64 {
+fn round<T>(calls: usize, mut side: impl FnMut(usize) -> T) -> f64 {
     let start = Instant::now();
     for call in 0..calls {
         black_box(side(black_box(call)));

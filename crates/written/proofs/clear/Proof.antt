@@ -3,16 +3,16 @@ use Prim.Native.Nat.{_-_, _≤_}
 use mathlib.Core.Path.{_≡_}
 use mathlib.Core.List.{_++_}
 use lib.ListN.{length, drop, replicate}
 use Rattle.written.proofs.Overs.{clearing}
-use Rattle.room.proofs.clear.Statement.{statement}
-use Rattle.room.proofs.clear.Tie as tie
+use Rattle.written.proofs.clear.Statement.{statement}
+use Rattle.written.proofs.clear.Tie as tie
 
 abbrev Inv-loop : tie.InvT-loop
-Inv-loop room₀ i₀ room i =
-    (room ≡ replicate i 0 ++ drop i room₀) × (length room ≡ length room₀) × (i ≤ length room₀)
+Inv-loop numbers₀ i₀ numbers i =
+    (numbers ≡ replicate i 0 ++ drop i numbers₀) × (length numbers ≡ length numbers₀) × (i ≤ length numbers₀)
 
 abbrev μ-loop : tie.MeasureT-loop
-μ-loop room₀ i₀ room i = length room₀ - i
+μ-loop numbers₀ i₀ numbers i = length numbers₀ - i
 
 pub clear-spec : {M : Type 1} → statement M
 clear-spec =
