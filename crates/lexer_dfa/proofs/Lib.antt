@@ -1,3 +1,4 @@
+pub mod Decoding
 pub mod Demand2
 pub mod Examples
 pub mod Unique

@@ -1,6 +1,6 @@
--- Each public call's contract determines its answer. For it is an equation for the answer, or for what the answer says, and no two
--- answers say one thing. Assumes nothing.
-use mathlib.Core.Path.{sym, _∙_}
+-- Each public call's contract determines its answer, and what it leaves in a slice that it is lent. For it is an equation for the answer, or for what
+-- the answer says, and no two answers say one thing; and one for the list in the slice. Assumes nothing.
+use mathlib.Core.Path.{refl, sym, ap, _∙_}
 use Rattle.ascii_range.proofs.next_exit.Reads as next-exit
 use Rattle.ascii_range.proofs.from_self_loops.Reads as from-self-loops
 use Rattle.ascii_range.proofs.from_run.Reads as from-run
@@ -30,7 +30,11 @@ use Rattle.words.proofs.read_continuation.Reads as read-continuation
 use Rattle.words.proofs.read_config.Reads as read-config
 use Rattle.layout.proofs.find_sections.Reads as find-sections
 use Rattle.rules.proofs.first_broken.Reads as first-broken
-use Rattle.lexer_dfa.specs.Unique.{Determines, DeterminesPart}
+use Rattle.room.specs.Room.{roomFor}
+use Rattle.written.proofs.clear.Reads as clear
+use Rattle.room.proofs.fill.Reads as fill
+use Rattle.codec.proofs.decode.Reads as decode
+use Rattle.lexer_dfa.specs.Unique.{Determines, DeterminesPart, DeterminesBoth}
 
 -- ascii_range
 
@@ -121,3 +125,18 @@ find-sections-unique κs a x y e f p q = p ∙ sym q
 
 pub first-broken-unique : Determines first-broken.Learnt
 first-broken-unique κs a x y e f p q = p ∙ sym q
+
+-- written
+
+pub clear-unique : DeterminesBoth (λ κs e. e .0) clear.Learnt
+clear-unique κs a x y e f p q = (refl, p ∙ sym q)
+
+-- room
+
+pub fill-unique : DeterminesBoth (λ κs e. e .1 .0) fill.Learnt
+fill-unique κs a x y e f p q = (p .0 ∙ sym (q .0), p .1 ∙ ap (roomFor _ _) (p .0 ∙ sym (q .0)) ∙ sym (q .1))
+
+-- codec
+
+pub decode-unique : DeterminesBoth (λ κs e. e .1 .0) decode.Learnt
+decode-unique κs a x y e f p q = (p .0 ∙ sym (q .0), p .1 ∙ sym (q .1))

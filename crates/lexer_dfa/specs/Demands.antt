@@ -18,6 +18,28 @@ use Rattle.ascii_run.specs.Shape.{Shape, none, any, until, ranges}
 use Rattle.ascii_run.proofs.classify.Reads as classify
 use Rattle.ascii_run.proofs.scan.Reads as scan
 use Rattle.ascii_run.proofs.scan_length.Reads as scan-length
+use Rattle.table.specs.Table.{Table, wordsOf, Fields}
+use Rattle.table.specs.Rules.{Rules}
+use Rattle.codec.specs.declared.Decoded.{Decoded}
+use Rattle.codec.proofs.decode.Reads as decode
+
+-- Demand 2: "Given its room, decoding accepts the lists of up to 8,192 words that meet the layout and the nine index rules, and no others."
+
+-- decode may answer x by its own contract, and leave these numbers in the room, which is its second argument at exit
+abbrev pub DecodeAnswers : (words room : RefT (List ℕ)) → Decoded → List ℕ → Type 0
+DecodeAnswers words room x left = (κs : Lfts 2) × (e : _) × decode.Learnt κs (words, (room, tt)) x e × (e .1 .0 .now ≡ left)
+
+-- w is up to 8,192 words that meet the layout and the nine index rules: the words of a table whose fields are allowed and which obeys the rules. It has so
+-- many modes, states and words. A table keeps a flag as its word, so any word stands for a flag
+pub record Accepted (w : List ℕ) (modes states words : ℕ) : Type 0 where
+  pub table : Table
+  pub limit : length w ≤ 8192
+  pub layout : w ≡ wordsOf table
+  pub fields : Fields table
+  pub rules : Rules table
+  pub of-modes : modes ≡ length (table .modes)
+  pub of-states : states ≡ length (table .states)
+  pub of-words : words ≡ length w
 
 -- Demand 2: "Over ASCII-only bytes, a state's run, where it has one, is the longest front part on which it loops."
 

@@ -13,6 +13,7 @@ use Rattle.ascii_run.specs.Shape.{Got, run, refused, gotSaid, shape}
 use Rattle.ascii_run.specs.Classify.{classified}
 use Rattle.ascii_run.specs.Words.{wordsOf}
 use Rattle.ascii_run.specs.Scan.{scanSaid}
+use Rattle.codec.specs.Decode as codec
 
 -- a call, and what it is given
 pub data Call : Type 0 where
@@ -22,6 +23,8 @@ pub data Call : Type 0 where
   words : (row : List ℕ) (state : ℕ) → Call
   -- `scan_length`: how many bytes that run skips, and 1 where an exit was found, else 0
   scan : (row : List ℕ) (state : ℕ) (bytes : List ℕ) → Call
+  -- `decode` into a room of so many numbers: how many modes, states and words the table has
+  decode : (list : List ℕ) (room : ℕ) → Call
 
 -- the words of a run, as many as it has
 abbrev pub wordList : RunWords → List ℕ
@@ -41,6 +44,7 @@ abbrev pub saidBy : Call → Said
 saidBy (classify row state) = gotSaid (classified state row)
 saidBy (words row state) = wordsSaid (classified state row)
 saidBy (scan row state bytes) = scannedSaid bytes (classified state row)
+saidBy (decode list room) = codec.said (codec.decodeOf list room)
 
 -- an example: the call says this
 infix 10 _says_

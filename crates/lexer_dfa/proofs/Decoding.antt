@@ -1,0 +1,262 @@
+-- Demand 2, its first sentence, and the refusals of decode, by decode's own contract: what decode answers is judged by the room's length, the number of
+-- words, their layout, and the rules of the table that they are. Assumes nothing.
+use Prim.Native.Nat.{ℕ, zero, suc, _+_, _≤_, _<_}
+use native.Mathlib.Omega.{arith}
+use mathlib.Core.Path.{_≡_, refl, sym, ap, subst, _∙_}
+use mathlib.Core.Bool.{Bool, true, false}
+use mathlib.Core.List.{List, [], _∷_}
+use mathlib.Core.Logic.{_⊎_, inl, inr}
+use lib.Dec.{ltb, eqb}
+use lib.ListN.{length, getD}
+use borrow.Author.Tests.{ltb-true, ltb-false, lt-ltb, le-ltb, ne-eqb}
+use denote.Ref.{RefT}
+use Rattle.refusal.specs.Said.{Said, ok, no, SHORT, TAG, FIELD, LIMIT, LEFT, INDEX, ROOM}
+use Rattle.refusal.specs.Lists.{pick}
+use Rattle.layout.specs.declared.Sections.{Sections}
+use Rattle.layout.specs.declared.Sections.the-variants.{Found, Unfound}
+use Rattle.layout.specs.Layout.{unfound, layoutOf}
+use Rattle.rules.specs.Rules.{broken}
+use Rattle.written.specs.Over.{zeros}
+use Rattle.room.specs.Room.{laidOut, roomFor}
+use Rattle.codec.specs.declared.Decoded.{Decoded}
+use Rattle.codec.specs.Decode.{said, judged, decodedFrom, decodeOf, keptFrom, roomOf}
+use Rattle.table.specs.Table.{Table, wordsOf, Fields}
+use Rattle.table.specs.Whole.{Fit}
+use Rattle.table.specs.Rules.{Rules, FirstOf, FirstBroken}
+use Rattle.table.specs.Places.{statesPlace, sectionsOf, brokenOf}
+use Rattle.table.specs.Fronts.{Exactly}
+use Rattle.table.proofs.Codec.{at-head}
+use Rattle.table.proofs.Placed.{modes-stand, states-stand, layout-is, found-table}
+use Rattle.table.proofs.Obeyed.{unbroken-is, broken-is, obeys-accepted}
+use Rattle.table.proofs.Refusals.{refusals}
+use Rattle.lexer_dfa.specs.Demands.{DecodeAnswers, Accepted, From}
+use Rattle.lexer_dfa.specs.RefusedBy.{Read, Breaks, RefusedBy}
+
+-- What decode says, on each condition
+
+module _ (w : List ℕ) (n : ℕ) where
+  -- "ROOM (table room under 16,384 numbers)"
+  no-room : n < 16384 → said (decodeOf w n) ≡ no ROOM 0
+  unfolding laidOut decodedFrom
+  no-room h = rw (lt-ltb n 16384 h)
+
+  -- "LIMIT | over 8,192 words"
+  over-limit : 16384 ≤ n → 8192 < length w → said (decodeOf w n) ≡ no LIMIT 8192
+  unfolding laidOut decodedFrom
+  over-limit h l = rw (le-ltb n 16384 h, lt-ltb 8192 (length w) l)
+
+  -- else the words are read
+  is-read : Read w n → laidOut w n ≡ layoutOf w
+  unfolding laidOut
+  is-read (h, l) = rw (le-ltb n 16384 h, le-ltb 8192 (length w) l)
+
+  -- and what their layout refuses is refused
+  not-laid : {k p : ℕ} → Read w n → layoutOf w ≡ unfound k p → said (decodeOf w n) ≡ no k p
+  unfolding decodedFrom
+  not-laid r e = ap (λ s. said (decodedFrom w s)) (is-read r ∙ e)
+
+-- the words of a table, whose fields are allowed: its rules judge it
+module _ (t : Table) (h : Fields t) (n : ℕ) (r : Read (wordsOf t) n) where
+  -- its sections are found
+  laid : laidOut (wordsOf t) n ≡ sectionsOf t
+  laid = is-read (wordsOf t) n r ∙ layout-is t h
+
+  rules-judge : decodeOf (wordsOf t) n ≡ judged (wordsOf t) 1 (statesPlace t) (brokenOf t)
+  unfolding decodedFrom sectionsOf
+  rules-judge = ap (decodedFrom (wordsOf t)) laid
+
+  -- it obeys the rules: its modes, states and words are counted
+  obeys : Rules t → said (decodeOf (wordsOf t) n) ≡ ok (length (t .modes) ∷ length (t .states) ∷ length (wordsOf t) ∷ [])
+  unfolding judged
+  obeys o = ap said rules-judge ∙ (rw (obeys-accepted t h (r .1) o .1, at-head (modes-stand t), at-head (states-stand t)))
+
+  -- it breaks one: INDEX gives the first
+  breaks : (k : ℕ) → 0 < k → FirstBroken t k → said (decodeOf (wordsOf t) n) ≡ no INDEX k
+  unfolding judged
+  breaks k p b = ap said rules-judge ∙ (rw (broken-is t h (r .1) k p .1 b, ne-eqb k 0 (λ z. omega arith)))
+
+  -- the room of a table that obeys the rules
+  obeys-room : Rules t → roomOf (wordsOf t) n ≡ roomFor (wordsOf t) n (sectionsOf t)
+  unfolding keptFrom sectionsOf
+  obeys-room o = ap (keptFrom (wordsOf t) n) laid ∙ (rw (obeys-accepted t h (r .1) o .1))
+
+-- of rules that are numbered from n on, the first that is broken has no lower number
+first-from : (n : ℕ) {k : ℕ} (Rs : List (Type 0)) → FirstOf n Rs k → n ≤ k
+unfolding FirstOf
+first-from n [] f = absurd f
+first-from n (R ∷ Rs) (inl f) = omega arith
+first-from n (R ∷ Rs) (inr f) = omega (arith, first-from (n + 1) Rs (f .1))
+
+-- Why decode says what it says
+
+-- number k is given at p
+data Reason (w : List ℕ) (n k p : ℕ) : Type 0 where
+  narrow : k ≡ ROOM → p ≡ 0 → n < 16384 → Reason w n k p
+  long : k ≡ LIMIT → p ≡ 8192 → 16384 ≤ n → 8192 < length w → Reason w n k p
+  unlaid : Read w n → layoutOf w ≡ unfound k p → Reason w n k p
+  broken-rule : k ≡ INDEX → Read w n → Breaks w p → Reason w n k p
+
+-- of words w and a room of n numbers this is said
+abbrev Why : List ℕ → ℕ → Said → Type 0
+Why w n (ok l) = Accepted w (getD l 0 0) (getD l 1 0) (getD l 2 0)
+Why w n (no k p) = Reason w n k p
+
+-- the words are a table's
+table-why : (t : Table) → Fields t → (n : ℕ) → Read (wordsOf t) n → Why (wordsOf t) n (said (decodeOf (wordsOf t) n))
+table-why t h n r = go (brokenOf t) refl
+  where
+    go : (k : ℕ) → brokenOf t ≡ k → Why (wordsOf t) n (said (decodeOf (wordsOf t) n))
+    go zero e =
+        let o = unbroken-is t h (r .1) .0 e in
+        subst (Why (wordsOf t) n) (sym (obeys t h n r o)) (record { table = t; limit = r .1; layout = refl; fields = h; rules = o; of-modes = refl; of-states = refl; of-words = refl })
+    go (suc k) e =
+        let b = broken-is t h (r .1) (suc k) (omega arith) .0 e in
+        subst (Why (wordsOf t) n) (sym (breaks t h n r (suc k) (omega arith) b)) (broken-rule refl r (t, h, b, refl))
+
+module _ (w : List ℕ) (n : ℕ) (f : Fit w) where
+  -- the words are read
+  read-why : Read w n → (s : Sections) → layoutOf w ≡ s → Why w n (said (decodeOf w n))
+  read-why r (Unfound q) e = subst (Why w n) (sym (not-laid w n r e)) (unlaid r e)
+  read-why r (Found modes states runs ascii wide accepts escapes continuations) e =
+      let t = found-table w f e in
+      subst (λ v. Why v n (said (decodeOf v n))) (sym (t .2)) (table-why (t .0) (t .1) n (subst (λ v. Read v n) (t .2) r))
+
+  why : Why w n (said (decodeOf w n))
+  why = go (ltb n 16384) (ltb 8192 (length w)) refl refl
+    where
+      go : (a b : Bool) → ltb n 16384 ≡ a → ltb 8192 (length w) ≡ b → Why w n (said (decodeOf w n))
+      go true b i j = let h = ltb-true n 16384 i in subst (Why w n) (sym (no-room w n h)) (narrow refl refl h)
+      go false true i j =
+          let h = ltb-false n 16384 i in
+          let l = ltb-true 8192 (length w) j in
+          subst (Why w n) (sym (over-limit w n h l)) (long refl refl h l)
+      go false false i j = read-why (ltb-false n 16384 i, ltb-false 8192 (length w) j) (layoutOf w) refl
+
+  -- a refusal has one reason
+  reason : {k p : ℕ} → said (decodeOf w n) ≡ no k p → Reason w n k p
+  reason e = subst (Why w n) e why
+
+  -- the layout gives 1, 2, 3 and 5
+  layout-number : {k p : ℕ} → layoutOf w ≡ unfound k p → From 1 5 k × (k ≡ LIMIT → ⊥)
+  layout-number {k} e = go (refusals w f .no-other _ e)
+    where
+      go : (k ≡ SHORT) ⊎ (k ≡ TAG) ⊎ (k ≡ FIELD) ⊎ (k ≡ LEFT) → From 1 5 k × (k ≡ LIMIT → ⊥)
+      go (inl i) = ((omega arith, omega arith), λ j. omega arith)
+      go (inr (inl i)) = ((omega arith, omega arith), λ j. omega arith)
+      go (inr (inr (inl i))) = ((omega arith, omega arith), λ j. omega arith)
+      go (inr (inr (inr i))) = ((omega arith, omega arith), λ j. omega arith)
+
+  -- each number has its own reason
+  by-layout : {k p : ℕ} → k < 6 → (k ≡ LIMIT → ⊥) → Reason w n k p → Read w n × (layoutOf w ≡ unfound k p)
+  by-layout l z (narrow i _ _) = absurd (omega arith)
+  by-layout l z (long i _ _ _) = absurd (z i)
+  by-layout l z (unlaid r e) = (r, e)
+  by-layout l z (broken-rule i _ _) = absurd (omega arith)
+
+  by-room : {p : ℕ} → Reason w n ROOM p → (p ≡ 0) × (n < 16384)
+  by-room (narrow _ e h) = (e, h)
+  by-room (long i _ _ _) = absurd (omega arith)
+  by-room (unlaid r e) = absurd (omega (arith, layout-number e .0 .1))
+  by-room (broken-rule i _ _) = absurd (omega arith)
+
+  by-limit : {p : ℕ} → Reason w n LIMIT p → (p ≡ 8192) × (16384 ≤ n) × (8192 < length w)
+  by-limit (narrow i _ _) = absurd (omega arith)
+  by-limit (long _ e h l) = (e, h, l)
+  by-limit (unlaid r e) = absurd (layout-number e .1 refl)
+  by-limit (broken-rule i _ _) = absurd (omega arith)
+
+  by-index : {p : ℕ} → Reason w n INDEX p → Read w n × Breaks w p
+  by-index (narrow i _ _) = absurd (omega arith)
+  by-index (long i _ _ _) = absurd (omega arith)
+  by-index (unlaid r e) = absurd (omega (arith, layout-number e .0 .1))
+  by-index (broken-rule _ r b) = (r, b)
+
+  numbered : {k p : ℕ} → Reason w n k p → From 1 7 k
+  numbered (narrow i _ _) = (omega arith, omega arith)
+  numbered (long i _ _ _) = (omega arith, omega arith)
+  numbered (unlaid r e) = let l = layout-number e .0 in (l .0, omega (arith, l .1))
+  numbered (broken-rule i _ _) = (omega arith, omega arith)
+
+  -- what the layout refuses, decode refuses
+  lifted : (k p : ℕ) {B : Type 0} → k < 6 → (k ≡ LIMIT → ⊥) → Exactly (layoutOf w ≡ unfound k p) B → Exactly (said (decodeOf w n) ≡ no k p) (Read w n × B)
+  lifted k p l z x = (λ e. let q = by-layout l z (reason e) in (q .0, x .0 (q .1)), λ h. not-laid w n (h .0) (x .1 (h .1)))
+
+  -- words of a table that breaks a rule are refused
+  broke : {p : ℕ} → Read w n → Breaks w p → said (decodeOf w n) ≡ no INDEX p
+  broke {p} r (t, h, b, o) = subst (λ v. said (decodeOf v n) ≡ no INDEX p) (sym o) (breaks t h n (subst (λ v. Read v n) o r) p (first-from 1 _ b) b)
+
+  -- the refusals by number
+  says-refused : RefusedBy w n (said (decodeOf w n))
+  says-refused = record {
+    short = λ p. lifted SHORT p (omega arith) (λ e. omega arith) (refusals w f .short p);
+    tag = λ p. lifted TAG p (omega arith) (λ e. omega arith) (refusals w f .differs p);
+    field = λ p. lifted FIELD p (omega arith) (λ e. omega arith) (refusals w f .field p);
+    limit = λ p. (λ e. by-limit (reason e), λ h. over-limit w n (h .1) (h .2) ∙ ap (no LIMIT) (sym (h .0)));
+    left = λ p. lifted LEFT p (omega arith) (λ e. omega arith) (refusals w f .left p);
+    index = λ p. (λ e. by-index (reason e), λ h. broke (h .0) (h .1));
+    room = λ p. (λ e. by-room (reason e), λ h. no-room w n (h .1) ∙ ap (no ROOM) (sym (h .0)));
+    no-other = λ k p e. numbered (reason e);
+  }
+
+-- What is accepted, and the room
+
+module _ (w : List ℕ) (n : ℕ) (enough : 16384 ≤ n) {modes states count : ℕ} (a : Accepted w modes states count) where
+  reads : Read (wordsOf (a .table)) n
+  reads = (enough, subst (λ v. length v ≤ 8192) (a .layout) (a .limit))
+
+  -- the numbers that `Accepted` names are said
+  says-accepted : said (decodeOf w n) ≡ ok (modes ∷ states ∷ count ∷ [])
+  says-accepted =
+      let t = a .table in
+      let e = subst (λ v. said (decodeOf v n) ≡ ok (length (t .modes) ∷ length (t .states) ∷ length v ∷ [])) (sym (a .layout)) (obeys t (a .fields) n reads (a .rules)) in
+      e ∙ (rw (a .of-modes, a .of-states, a .of-words))
+
+  -- and the room is the table's
+  keeps-accepted : roomOf w n ≡ roomFor w n (sectionsOf (a .table))
+  keeps-accepted =
+      let t = a .table in
+      subst (λ v. roomOf v n ≡ roomFor v n (sectionsOf t)) (sym (a .layout)) (obeys-room t (a .fields) n reads (a .rules))
+
+-- where decode refuses, the room holds zeros
+keeps-zeros : (w : List ℕ) (n : ℕ) {k p : ℕ} (s : Sections) → said (decodedFrom w s) ≡ no k p → keptFrom w n s ≡ zeros n
+unfolding decodedFrom judged keptFrom
+keeps-zeros w n (Unfound r) e = refl
+keeps-zeros w n {k} {p} (Found m s r a v x c d) e = go (broken w m s r a v x c d) e
+  where
+    go : (i : ℕ) → said (judged w m s i) ≡ no k p → pick (eqb i 0) (roomFor w n (Found m s r a v x c d)) (zeros n) ≡ zeros n
+    go zero h = let z : _≡_ {A = ℕ} 0 1 = cc in absurd (omega arith)
+    go (suc i) h = rw (ne-eqb (suc i) 0 (λ z. omega arith))
+
+-- The call, by its own contract. The arguments of a contract carry no bound on a slice's numbers, so that the words have 32 bits, as the type u32
+-- says, is a premise, `Fit`.
+
+-- Demand 2: "Given its room, decoding accepts the lists of up to 8,192 words that meet the layout and the nine index rules, and no others."
+pub decode-accepts : (words room : RefT (List ℕ)) → Fit (words .now) → 16384 ≤ length (room .now) →
+    (x : Decoded) (left : List ℕ) → DecodeAnswers words room x left →
+    (modes states count : ℕ) → Exactly (said x ≡ ok (modes ∷ states ∷ count ∷ [])) (Accepted (words .now) modes states count)
+decode-accepts words room f enough x left a modes states count =
+    let w = words .now in
+    let n = length (room .now) in
+    let e : said x ≡ said (decodeOf w n) = ap said (a .2 .0) in
+    (λ h. subst (Why w n) (sym e ∙ h) (why w n f), λ h. e ∙ says-accepted w n enough h)
+
+-- Demand 1: "one numbered refusal, given on the stated condition and never otherwise."
+pub decode-refuses : (words room : RefT (List ℕ)) → Fit (words .now) → (x : Decoded) (left : List ℕ) → DecodeAnswers words room x left →
+    RefusedBy (words .now) (length (room .now)) (said x)
+decode-refuses words room f x left a =
+    let w = words .now in
+    let n = length (room .now) in
+    subst (λ y. RefusedBy w n (said y)) (sym (a .2 .0)) (says-refused w n f)
+
+-- "Refused: all outputs zero."
+pub refused-zero : (words room : RefT (List ℕ)) (x : Decoded) (left : List ℕ) → DecodeAnswers words room x left →
+    (number p : ℕ) → said x ≡ no number p → left ≡ zeros (length (room .now))
+refused-zero words room x left a number p e =
+    let w = words .now in
+    let n = length (room .now) in
+    sym (a .3) ∙ a .2 .1 ∙ keeps-zeros w n (laidOut w n) (ap said (sym (a .2 .0)) ∙ e)
+
+-- accepted: the room holds the numbers of the table, by the places of its sections, and zeros behind them
+pub accepted-room : (words room : RefT (List ℕ)) → 16384 ≤ length (room .now) → (x : Decoded) (left : List ℕ) → DecodeAnswers words room x left →
+    (modes states count : ℕ) (t : Accepted (words .now) modes states count) → left ≡ roomFor (words .now) (length (room .now)) (sectionsOf (t .table))
+accepted-room words room enough x left a modes states count t = sym (a .3) ∙ a .2 .1 ∙ keeps-accepted (words .now) (length (room .now)) enough t
