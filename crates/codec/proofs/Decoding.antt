@@ -1,5 +1,5 @@
 -- The laws of decoding, by the tests that the code makes. Assumes nothing.
-use Prim.Native.Nat.{ℕ, _+_, _<_, _≤_}
+use Prim.Native.Nat.{ℕ, _<_, _≤_}
 use native.Mathlib.Omega.{arith}
 use mathlib.Core.Path.{_≡_, refl, sym, ap, _∙_}
 use mathlib.Core.Bool.{Bool, true, false}
@@ -15,7 +15,7 @@ use Rattle.words.proofs.Bounds.{section-in}
 use Rattle.layout.specs.declared.Sections.{Sections}
 use Rattle.layout.specs.declared.Sections.the-variants.{Found, Unfound}
 use Rattle.layout.specs.Layout.{unfound, layoutOf}
-use Rattle.layout.proofs.Found.{Laid, found}
+use Rattle.layout.proofs.Found.{found}
 use Rattle.rules.specs.Rules.{broken}
 use Rattle.written.specs.Over.{zeros}
 use Rattle.room.specs.Room.{laidOut, roomFor}

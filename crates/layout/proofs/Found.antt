@@ -1,5 +1,5 @@
 -- What it means that the sections were found: each was read to the place of the next, and the last to the end of the words. Assumes nothing.
-use Prim.Native.Nat.{ℕ, _<_, _≤_}
+use Prim.Native.Nat.{ℕ, _≤_}
 use native.Mathlib.Omega.{arith}
 use mathlib.Core.Path.{_≡_, refl, sym, ap, _∙_}
 use mathlib.Core.Bool.{Bool, true, false}
@@ -17,7 +17,7 @@ use Rattle.words.specs.Records.{modeAt, stateAt, runAt, asciiAt, wideAt, accept
 use Rattle.words.proofs.Bounds.{counted-in, continuation-in}
 use Rattle.layout.specs.declared.Sections.{Sections}
 use Rattle.layout.specs.declared.Sections.the-variants.{Found, Unfound}
-use Rattle.layout.specs.Layout.{unfound, onward, atEnd, fromModes, layoutOf}
+use Rattle.layout.specs.Layout.{unfound, onward, fromModes, layoutOf}
 
 pub record Laid (w : List ℕ) (m s r a v x e c : ℕ) : Type 0 where
   pub front : m ≡ 1

@@ -1,24 +1,22 @@
 -- The laws of writing one record, by the tests and stores that the code makes. Assumes nothing.
 use Prim.Native.Nat.{ℕ, _+_, _*_, _-_, _^_, _<_, _≤_}
 use native.Mathlib.Omega.{arith}
-use mathlib.Core.Path.{_≡_, refl, sym, ap, subst, _∙_}
+use mathlib.Core.Path.{_≡_, refl, sym, ap, subst}
 use mathlib.Core.List.{List, [], _∷_, _++_, append-nil}
 use mir.Syntax.{w64}
 use mir.Val.{Fits}
 use borrow.Author.Needs.{needs}
 use borrow.Author.Tests.{eq-eqb, ne-eqb, ltb-true}
 use mathlib.Core.Bool.{true}
-use lib.Dec.{eqb, ltb}
+use lib.Dec.{ltb}
 use lib.ListN.{length, getD, set, length-set, length-append}
-use Rattle.words.specs.declared.Place.{Place}
 use Rattle.words.specs.declared.Place.the-variants.{Next}
-use Rattle.words.specs.Parse.{section}
 use Rattle.words.specs.Records.{acceptAt, configAt, continuationAt}
 use Rattle.words.proofs.Bounds.{accept-sized, config-sized, configs-behind, section-in}
 use Rattle.written.specs.Over.{Put}
-use Rattle.written.proofs.Overs.{lay-none, lay-put, lay-length}
-use Rattle.written.proofs.Going.{Going, going-start, going-turn, going-done, put-one, put-two, put-size-1, put-size-2, put-size-4}
-use Rattle.room.specs.Room.{starts, each, copied, flag, renewed, acceptMade, configMade, continuationMade, shifted}
+use Rattle.written.proofs.Overs.{lay-none}
+use Rattle.written.proofs.Going.{Going, going-start, going-turn, going-done, put-one, put-two, put-size-2, put-size-4}
+use Rattle.room.specs.Room.{copied, flag, renewed, acceptMade, configMade, continuationMade, shifted}
 
 -- A place inside a list is a number of the machine
 

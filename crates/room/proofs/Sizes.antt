@@ -1,8 +1,8 @@
 -- How many numbers a table has: nine, its words, and a place for each record of variable length, at most two for each word. Assumes nothing.
-use Prim.Native.Nat.{ℕ, zero, suc, _+_, _*_, _-_, _<_, _≤_}
+use Prim.Native.Nat.{ℕ, zero, suc, _+_, _*_, _-_, _≤_}
 use native.Mathlib.Omega.{arith}
-use mathlib.Core.Path.{_≡_, refl, sym, ap, _∙_}
-use mathlib.Core.List.{List, [], _∷_, _++_}
+use mathlib.Core.Path.{_≡_, refl, ap}
+use mathlib.Core.List.{List, _++_}
 use lib.ListN.{length, getD, take, drop, length-append, length-drop}
 use lib.Seq.{length-take-le}
 use Rattle.words.specs.declared.Place.{Place}
@@ -10,9 +10,7 @@ use Rattle.words.specs.declared.Place.the-variants.{Next, Refused}
 use Rattle.words.specs.Parse.{andThen, many, section}
 use Rattle.words.specs.Records.{runAt, wideAt, acceptAt, escapeAt, configAt, continuationAt}
 use Rattle.words.proofs.Bounds.{Within, counted-in, section-in, mode-in, state-in, run-in, ascii-in, wide-in, accept-in, escape-in, continuation-in, accept-sized, config-sized, configs-behind}
-use Rattle.layout.specs.declared.Sections.the-variants.{Found}
-use Rattle.layout.specs.Layout.{layoutOf}
-use Rattle.layout.proofs.Found.{Laid, found}
+use Rattle.layout.proofs.Found.{Laid}
 use Rattle.room.specs.Room.{starts, startsFrom, each, copied, shifted, placed, renewed, acceptMade, configMade, continuationMade, laterMade, made, header, laterPlaces, places, body, numbers}
 
 -- Records

@@ -1,7 +1,7 @@
 -- The laws of writing a whole table, part by part. Assumes nothing.
 use Prim.Native.Nat.{ℕ, _+_, _*_, _-_, _^_, _<_, _≤_}
 use native.Mathlib.Omega.{arith}
-use mathlib.Core.Path.{_≡_, refl, sym, ap, _∙_}
+use mathlib.Core.Path.{_≡_, sym, ap, _∙_}
 use mathlib.Core.List.{List, [], _∷_, _++_, append-nil}
 use mathlib.Core.Bool.{true}
 use mir.Syntax.{w64}
@@ -10,7 +10,6 @@ use borrow.Author.Needs.{needs}
 use borrow.Author.Tests.{ltb-true, lt-ltb, le-ltb}
 use lib.Dec.{ltb}
 use lib.ListN.{length, set, length-set, length-append, length-replicate}
-use Rattle.words.specs.declared.Place.{Place}
 use Rattle.words.specs.Records.{runAt, wideAt, acceptAt, escapeAt, continuationAt}
 use Rattle.layout.specs.declared.Sections.{Sections}
 use Rattle.layout.specs.declared.Sections.the-variants.{Found, Unfound}
@@ -21,8 +20,8 @@ use Rattle.refusal.specs.Said.{LIMIT, ROOM}
 use Rattle.written.specs.Over.{Put, zeros}
 use Rattle.written.proofs.Overs.{lay-none, lay-zeros}
 use Rattle.written.proofs.Going.{Going, going-start, going-room, going-turn, going-done, put-one, put-two, put-size, put-size-1}
-use Rattle.room.specs.Room.{starts, each, copied, shifted, placed, renewed, acceptMade, continuationMade, laterMade, made, four, header, laterPlaces, places, body, numbers, laidOut, roomFor}
-use Rattle.room.proofs.Sizes.{Ordered, ordered, numbers-length}
+use Rattle.room.specs.Room.{copied, placed, renewed, acceptMade, continuationMade, laterMade, made, four, header, laterPlaces, places, body, numbers, laidOut, roomFor}
+use Rattle.room.proofs.Sizes.{ordered, numbers-length}
 
 -- One part behind another
 

@@ -2,23 +2,22 @@
 use Prim.Native.Nat.{ℕ, zero, suc, _+_, _*_, _-_, _<_, _≤_}
 use native.Mathlib.Nat.{suc-mul, zero-mul}
 use native.Mathlib.Omega.{arith}
-use mathlib.Core.Path.{_≡_, refl, sym, _∙_}
+use mathlib.Core.Path.{_≡_, refl}
 use mathlib.Core.Bool.{Bool, true, false}
 use mathlib.Core.List.{List, [], _∷_}
 use lib.Dec.{ltb, leb, eqb}
 use lib.ListN.{length, getD, take, drop}
 use borrow.Author.Tests.{ltb-true, leb-true}
-use Rattle.refusal.specs.Said.{SHORT, FIELD}
+use Rattle.refusal.specs.Said.{SHORT}
 use Rattle.refusal.specs.Lists.{pick}
 use Rattle.ascii_range.specs.declared.AsciiRanges.{AsciiRanges}
 use Rattle.ascii_run.specs.declared.Run.{Run}
-use Rattle.ascii_range.specs.declared.AsciiRange.{AsciiRange}
-use Rattle.ascii_run.specs.Shape.{Shape, none, any, until, ranges, Got, run, refused, held}
+use Rattle.ascii_run.specs.Shape.{none, any, until, Got, run, refused, held}
 use Rattle.ascii_run.specs.Words.{readAt, sizeOf, shortRun, rangesRun, orField, kindOf}
 use Rattle.words.specs.declared.Place.{Place}
 use Rattle.words.specs.declared.Place.the-variants.{Next, Refused}
 use Rattle.words.specs.Parse as parse
-use Rattle.words.specs.Parse.{short, andThen, word, fields, block, many, section, both}
+use Rattle.words.specs.Parse.{andThen, word, fields, block, many, section, both}
 use Rattle.words.specs.Records.{behind, modeAt, stateAt, runAt, asciiAt, rangeAt, wideAt, tripleAt, acceptAt, escapeAt, contextAt, goodContext, configAt, continuationAt}
 
 -- Parts
