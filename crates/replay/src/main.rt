@@ -7,9 +7,12 @@
 //     2 class      three words, answer u8: 0 whitespace, 1 number, 2 identifier, 3 other, 255 refused
 //     3 scan       number of words u8, words, input length u16, input,
 //                  outcome u8: 0 refused, 1 no run, 2 ran; bytes u16, exit found u8
+//     4 decode     number of words u8, words, refusal u8: 0 accepted; place u8, modes u8, states u8, words u8,
+//                  check u32 of a room of 16,384 numbers: the sum of the sums after each number, in 32 bits
 //
 // It prints for each kind how many answers it replayed and how many of them differ. A record that cannot be read ends the replay,
 // with a line that says at which byte, so that a damaged sample cannot pass.
+mod decode;
 mod read;
 mod runs;
 mod tally;
@@ -38,6 +41,7 @@ fn replay_record(rest: &[u8]) -> Replayed {
         1 => runs::replay_classify(rest),
         2 => runs::replay_class(rest),
         3 => runs::replay_scan(rest),
+        4 => decode::replay_decode(rest),
         _ => unreadable(),
     }
 }

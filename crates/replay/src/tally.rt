@@ -7,7 +7,7 @@ pub struct Tally {
 }
 
 // Place 0 counts all answers, and the place of a kind's number those of the kind.
-pub const PLACES: usize = 4;
+pub const PLACES: usize = 5;
 
 pub fn none() -> [Tally; PLACES] {
     [Tally {
@@ -68,6 +68,7 @@ pub fn print_tallies(tallies: [Tally; PLACES]) {
     print_tally(b"classify", tallies[1]);
     print_tally(b"class", tallies[2]);
     print_tally(b"scan", tallies[3]);
+    print_tally(b"decode", tallies[4]);
     print_tally(b"replayed", tallies[0]);
 }
 

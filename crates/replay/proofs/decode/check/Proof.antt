@@ -1,0 +1,28 @@
+-- `replay::decode::check` is safe and ends: each number is added once. Nothing has to hold from turn to turn. Assumes nothing.
+use Prim.Native.Nat.{_-_}
+use lib.ListN.{length}
+use borrow.Author.Needs.{needs}
+use Rattle.replay.proofs.decode.check.Statement.{statement}
+use Rattle.replay.proofs.decode.check.Tie as tie
+
+abbrev Inv-loop : tie.InvT-loop
+Inv-loop room sum₀ sums₀ i₀ sum sums i = Unit
+
+abbrev μ-loop : tie.MeasureT-loop
+μ-loop room sum₀ sums₀ i₀ sum sums i = length room - i
+
+pub check-spec : {M : Type 1} → statement M
+check-spec =
+    tie.close
+    (tie.spec
+    Inv-loop
+    μ-loop
+    (λ c. search needs)
+    (λ c. search needs)
+    (λ c. search needs)
+    (λ c κs. search needs)
+    (λ c κs. search needs)
+    (λ c. search needs)
+    (λ c. search needs)
+    (λ c. search needs)
+    (λ c. search needs))

@@ -1,0 +1,33 @@
+// The program of document 01, "Ply-sheet examples": it reads a table's words from standard input, the least byte first, and prints
+// one line, `ok MODES STATES WORDS` or `no NUMBER PLACE`.
+//
+//     rt check tableread && target/bin/tableread < crates/tableread/stdin
+mod line;
+mod table;
+
+use libc::STDIN_FILENO;
+use libc::STDOUT_FILENO;
+use line::LONGEST;
+ghost use mathlib.Core.Path.{_≡_};
+ghost use lib.ListN.{take};
+ghost use Rattle.io.specs.Counts.{Counts};
+ghost use Rattle.codec.specs.Decode.{said};
+ghost use Rattle.tableread.specs.Bytes.{readOf};
+ghost use Rattle.tableread.specs.Line.{lineOf};
+
+// Puts the line that answers an input at the front of `line`, and answers how many bytes it has.
+fn answer(input: &[u8], line: &mut [u8; LONGEST]) -> usize
+    ensures { λ r. ⌜ Counts r (now (line .exit)) ⌝ }
+    ensures { λ r. ⌜ take r (now (line .exit)) ≡ lineOf (said (readOf (now (input .entry)))) ⌝ }
+{
+    line::put_line(table::read_table(input), line)
+}
+
+// The buffer takes 65,536 bytes, which are more than 8,192 words: an input that fills it is LIMIT, whatever stands behind.
+fn main() {
+    let mut input = io::large_buffer();
+    let n = io::read_full(STDIN_FILENO, &mut input);
+    let mut line = [0u8; LONGEST];
+    let k = answer(&input[..n], &mut line);
+    io::write_all(STDOUT_FILENO, &line[..k]);
+}
