@@ -1,5 +1,5 @@
 /*
- * The proved lexer DFA table core for C: ASCII ranges and runs, and the decoding of tables.
+ * The proved lexer DFA table core for C: ASCII ranges and runs, the decoding of tables, and lookups.
  *
  * The functions stand in target/staticlib/liblexer_dfa_c.a, which `rt staticlib lexer_dfa_c`
  * writes (x86-64).
@@ -33,7 +33,10 @@ enum {
     LEXER_DFA_LIMIT = 4, /* more than LEXER_DFA_MAX_WORDS words; place: 8192 */
     LEXER_DFA_LEFT = 5,  /* words remain behind the table; place: the first of them */
     LEXER_DFA_INDEX = 6, /* an index rule is broken; place: the first such rule, 1 to 9 */
-    LEXER_DFA_ROOM = 7   /* a room is too short; place: 0 */
+    LEXER_DFA_ROOM = 7,  /* a room is too short; place: 0 */
+    LEXER_DFA_STATE = 8, /* no such state, or a symbol past 127 for ascii_target; place: 0 */
+    LEXER_DFA_NOT_TABLE = 9, /* what a lookup follows in a room is not there; place: 0 */
+    LEXER_DFA_ORDER = 10     /* the starts of compiled modes descend; place: the mode */
 };
 
 /* What a byte is. */
@@ -127,6 +130,117 @@ typedef struct {
  */
 DecodeAnswer lexer_dfa_decode(const uint32_t *words, size_t len, uint32_t *room,
                               size_t room_len);
+
+/*
+ * Lookups take any room, of any length and with any numbers, and read nothing outside it. NOT_TABLE
+ * is never met on a room that decoding has filled; it comes before STATE. A lookup's refusal is at
+ * 0, so that the answer has no place: it passes in one register. On a refusal `value` is 0.
+ */
+#define LEXER_DFA_NONE 4294967295u
+#define LEXER_DFA_ESCAPE_STATE 65534u
+#define LEXER_DFA_DEAD_STATE 65535u
+
+typedef struct {
+    uint32_t value;
+    uint32_t number;
+} LookupAnswer;
+
+/* 1 where at least one mode is compiled, else 0. */
+LookupAnswer lexer_dfa_has_compiled_modes(const uint32_t *room, size_t len);
+
+LookupAnswer lexer_dfa_state_count(const uint32_t *room, size_t len);
+
+/* The state in which a mode starts; NONE for a mode that is negative, absent or not compiled. */
+LookupAnswer lexer_dfa_mode_start(const uint32_t *room, size_t len, int32_t mode);
+
+/* How many numbers were written; those behind them are 0. */
+typedef struct {
+    uint32_t number;
+    size_t place;
+    size_t length;
+} ListAnswer;
+
+/* For each mode 1 where it is compiled, else 0. Judged in this order: NOT_TABLE, ROOM (fewer numbers
+   than modes are lent). */
+ListAnswer lexer_dfa_compiled_mode_flags(const uint32_t *room, size_t len, uint32_t *out,
+                                         size_t out_len);
+
+/* For each compiled mode how many states it has. Judged in this order: NOT_TABLE, ROOM (fewer
+   numbers than compiled modes are lent), ORDER at the first mode that starts below the one before
+   it. */
+ListAnswer lexer_dfa_mode_state_counts(const uint32_t *room, size_t len, uint32_t *out,
+                                       size_t out_len);
+
+/* Where a state goes: a state, or DEAD_STATE, or ESCAPE_STATE. On a byte of 0 to 127 (STATE for any
+   other); on a character or any other number, a negative one read as unsigned; at the end. */
+LookupAnswer lexer_dfa_ascii_target(const uint32_t *room, size_t len, uint16_t state,
+                                    uint8_t symbol);
+LookupAnswer lexer_dfa_char_target(const uint32_t *room, size_t len, uint16_t state,
+                                   int32_t symbol);
+LookupAnswer lexer_dfa_eof_target(const uint32_t *room, size_t len, uint16_t state);
+
+/* The number of a state's accept, or NONE. */
+LookupAnswer lexer_dfa_accept(const uint32_t *room, size_t len, uint16_t state);
+
+/* The number of a state's continuation, or NONE: on a character, ASCII among them, and at the end. */
+LookupAnswer lexer_dfa_char_continuation(const uint32_t *room, size_t len, uint16_t state,
+                                         int32_t symbol);
+LookupAnswer lexer_dfa_eof_continuation(const uint32_t *room, size_t len, uint16_t state);
+
+/* The run of a state. */
+RunAnswer lexer_dfa_ascii_run(const uint32_t *room, size_t len, uint16_t state);
+
+/* How far a state's run goes. `stop` is 0 where the state has no run, and on a refusal; 1 where the
+   input ends, 2 where the run stops at a byte. */
+typedef struct {
+    size_t bytes;
+    uint32_t number;
+    uint32_t stop;
+} StateScanAnswer;
+
+StateScanAnswer lexer_dfa_scan_ascii_run(const uint32_t *room, size_t len, uint16_t state,
+                                         const uint8_t *input, size_t input_len);
+
+/* A part of a room: `length` numbers from number `from` on. Where there is no such record, and where
+   it is refused, both are 0. */
+typedef struct {
+    size_t from;
+    size_t length;
+} Span;
+
+/* An accept: its rule, its flag (1 or 0) and how many actions it has. `found` is 1, or 0 where there
+   is no accept of that number. */
+typedef struct {
+    uint32_t number;
+    uint32_t found;
+    uint32_t rule;
+    uint32_t consumed_eof;
+    uint32_t actions;
+} AcceptAnswer;
+
+AcceptAnswer lexer_dfa_accept_record(const uint32_t *room, size_t len, uint32_t accept);
+
+/* Its actions, of three numbers each. */
+Span lexer_dfa_accept_actions(const uint32_t *room, size_t len, uint32_t accept);
+
+/* How many contexts and configs a continuation has. `found` is 1, or 0 where there is no continuation
+   of that number. */
+typedef struct {
+    uint32_t number;
+    uint32_t found;
+    uint32_t contexts;
+    uint32_t configs;
+} ContinuationAnswer;
+
+ContinuationAnswer lexer_dfa_continuation_record(const uint32_t *room, size_t len,
+                                                 uint32_t continuation);
+
+/* Its contexts, of three numbers each: kind 0 or 1, and two more. */
+Span lexer_dfa_continuation_contexts(const uint32_t *room, size_t len, uint32_t continuation);
+
+/* Its configs: state, alternative rule or NONE, two flags, context, action count, and the actions, of
+   three numbers each. */
+Span lexer_dfa_continuation_configs(const uint32_t *room, size_t len, uint32_t continuation);
 
 #ifdef __cplusplus
 }

@@ -2,3 +2,6 @@ pub mod Decoding
 pub mod Demand2
 pub mod Examples
 pub mod Unique
+pub mod UniqueLookups
+pub mod LookupExamples
+pub mod Looking

@@ -35,3 +35,15 @@ INDEX = 6
 -- a lent buffer is shorter than stated
 abbrev pub ROOM : ℕ
 ROOM = 7
+
+-- no such state, or a symbol past 127 for `ascii_target`
+abbrev pub STATE : ℕ
+STATE = 8
+
+-- a number followed leads outside the room or its section, or a number read is one its field forbids
+abbrev pub NOT-TABLE : ℕ
+NOT-TABLE = 9
+
+-- compiled mode starts descend
+abbrev pub ORDER : ℕ
+ORDER = 10

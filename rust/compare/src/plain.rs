@@ -2,6 +2,7 @@
 //! from the original, which has no numbers and places of refusals. The library is held to these.
 
 mod decode;
+pub mod lookup;
 mod read;
 mod rules;
 mod run;

@@ -40,6 +40,49 @@ pub struct DecodeAnswer {
     pub words: usize,
 }
 
+#[repr(C)]
+pub struct LookupAnswer {
+    pub value: u32,
+    pub number: u32,
+}
+
+#[repr(C)]
+pub struct ListAnswer {
+    pub number: u32,
+    pub place: usize,
+    pub length: usize,
+}
+
+#[repr(C)]
+pub struct StateScanAnswer {
+    pub bytes: usize,
+    pub number: u32,
+    pub stop: u32,
+}
+
+#[repr(C)]
+pub struct Span {
+    pub from: usize,
+    pub length: usize,
+}
+
+#[repr(C)]
+pub struct AcceptAnswer {
+    pub number: u32,
+    pub found: u32,
+    pub rule: u32,
+    pub consumed_eof: u32,
+    pub actions: u32,
+}
+
+#[repr(C)]
+pub struct ContinuationAnswer {
+    pub number: u32,
+    pub found: u32,
+    pub contexts: u32,
+    pub configs: u32,
+}
+
 unsafe extern "C" {
     safe fn lexer_dfa_class_of_byte(byte: u8) -> u32;
     fn lexer_dfa_class(words: *const u32, len: usize) -> ClassAnswer;
@@ -57,6 +100,13 @@ unsafe extern "C" {
         room: *mut u32,
         room_len: usize,
     ) -> DecodeAnswer;
+    fn lexer_dfa_scan_ascii_run(
+        room: *const u32,
+        len: usize,
+        state: u16,
+        input: *const u8,
+        input_len: usize,
+    ) -> StateScanAnswer;
 }
 
 pub fn class_of_byte(byte: u8) -> u32 {
@@ -88,6 +138,67 @@ pub fn decode(words: &[u32], room: &mut [u32]) -> DecodeAnswer {
     // SAFETY: the words are a live slice, only read; the room is another, which the call has alone
     // and writes within its length. All values are taken, and every length of either.
     unsafe { lexer_dfa_decode(words.as_ptr(), words.len(), room.as_mut_ptr(), room.len()) }
+}
+
+#[inline]
+pub fn scan_ascii_run(room: &[u32], state: u16, input: &[u8]) -> StateScanAnswer {
+    // SAFETY: both pointers and lengths are those of live slices, only read; all values are taken.
+    unsafe {
+        lexer_dfa_scan_ascii_run(room.as_ptr(), room.len(), state, input.as_ptr(), input.len())
+    }
+}
+
+/// The lookups that take a room and at most two numbers.
+macro_rules! lookups {
+    ($($call:ident as $name:ident($($argument:ident: $number:ty),*) -> $answer:ty;)*) => {
+        unsafe extern "C" {
+            $(fn $call(room: *const u32, len: usize, $($argument: $number),*) -> $answer;)*
+        }
+        $(#[inline]
+        pub fn $name(room: &[u32], $($argument: $number),*) -> $answer {
+            // SAFETY: pointer and length are those of a live slice, only read; all values are
+            // taken, and every number beside it.
+            unsafe { $call(room.as_ptr(), room.len(), $($argument),*) }
+        })*
+    };
+}
+
+lookups! {
+    lexer_dfa_has_compiled_modes as has_compiled_modes() -> LookupAnswer;
+    lexer_dfa_state_count as state_count() -> LookupAnswer;
+    lexer_dfa_mode_start as mode_start(mode: i32) -> LookupAnswer;
+    lexer_dfa_ascii_target as ascii_target(state: u16, symbol: u8) -> LookupAnswer;
+    lexer_dfa_char_target as char_target(state: u16, symbol: i32) -> LookupAnswer;
+    lexer_dfa_eof_target as eof_target(state: u16) -> LookupAnswer;
+    lexer_dfa_accept as accept(state: u16) -> LookupAnswer;
+    lexer_dfa_char_continuation as char_continuation(state: u16, symbol: i32) -> LookupAnswer;
+    lexer_dfa_eof_continuation as eof_continuation(state: u16) -> LookupAnswer;
+    lexer_dfa_ascii_run as ascii_run(state: u16) -> RunAnswer;
+    lexer_dfa_accept_record as accept_record(accept: u32) -> AcceptAnswer;
+    lexer_dfa_accept_actions as accept_actions(accept: u32) -> Span;
+    lexer_dfa_continuation_record as continuation_record(continuation: u32) -> ContinuationAnswer;
+    lexer_dfa_continuation_contexts as continuation_contexts(continuation: u32) -> Span;
+    lexer_dfa_continuation_configs as continuation_configs(continuation: u32) -> Span;
+}
+
+/// The lookups that write a list into a buffer.
+macro_rules! lists {
+    ($($call:ident as $name:ident;)*) => {
+        unsafe extern "C" {
+            $(fn $call(room: *const u32, len: usize, out: *mut u32, out_len: usize)
+                -> ListAnswer;)*
+        }
+        $(pub fn $name(room: &[u32], out: &mut [u32]) -> ListAnswer {
+            // SAFETY: the room is a live slice, only read; the buffer is another, which the call
+            // has alone and writes within its length. All values are taken, and every length.
+            unsafe { $call(room.as_ptr(), room.len(), out.as_mut_ptr(), out.len()) }
+        })*
+    };
+}
+
+lists! {
+    lexer_dfa_compiled_mode_flags as compiled_mode_flags;
+    lexer_dfa_mode_state_counts as mode_state_counts;
 }
 
 #[cfg(test)]
@@ -140,6 +251,46 @@ mod tests {
         let answer = decode(&[0x4C44_0001, 1, u32::MAX, 0, 0, 0, 0, 0, 0, 0], &mut room);
         assert_eq!((answer.number, answer.place), (0, 0));
         assert_eq!((answer.modes, answer.states, answer.words), (1, 0, 10));
+    }
+
+    /// A refused lookup has its number alone, and a buffer that it is lent is all zeros.
+    #[test]
+    fn a_refused_lookup_is_empty() {
+        for room in [&[][..], &[7; 8], &[9; 40]] {
+            let values = [
+                has_compiled_modes(room),
+                state_count(room),
+                mode_start(room, 0),
+                accept(room, 0),
+                ascii_target(room, 0, 65),
+                char_target(room, 0, 65),
+                char_target(room, 0, 945),
+                eof_target(room, 0),
+                char_continuation(room, 0, 65),
+                eof_continuation(room, 0),
+            ];
+            assert!(values.iter().all(|answer| (answer.number, answer.value) == (9, 0)));
+            let answer = ascii_run(room, 0);
+            assert_eq!((answer.number, answer.place, answer.length), (9, 0, 0));
+            assert_eq!([answer.first, answer.second, answer.third], [0; 3]);
+            let answer = scan_ascii_run(room, 0, b"10 ply");
+            assert_eq!((answer.number, answer.bytes, answer.stop), (9, 0, 0));
+            let answer = accept_record(room, 0);
+            assert_eq!((answer.number, answer.found), (9, 0));
+            assert_eq!([answer.rule, answer.consumed_eof, answer.actions], [0; 3]);
+            let answer = continuation_record(room, 0);
+            assert_eq!((answer.number, answer.found), (9, 0));
+            assert_eq!([answer.contexts, answer.configs], [0; 2]);
+            let spans = [accept_actions, continuation_contexts, continuation_configs];
+            let spans = spans.map(|span| span(room, 0));
+            assert!(spans.iter().all(|span| (span.from, span.length) == (0, 0)));
+            for list in [compiled_mode_flags, mode_state_counts] {
+                let mut out = [7; 3];
+                let answer = list(room, &mut out);
+                assert_eq!((answer.number, answer.place, answer.length), (9, 0, 0));
+                assert_eq!(out, [0; 3]);
+            }
+        }
     }
 
     /// The words behind a run's own are 0, and an accepted answer's place is 0.

@@ -37,6 +37,7 @@ impl Refusal {
     }
 
     /// The answer's own part where it was accepted (number 0), else the refusal.
+    #[inline]
     pub(crate) fn unless_accepted(number: u32, place: usize) -> Result<(), Refusal> {
         if number == 0 {
             return Ok(());

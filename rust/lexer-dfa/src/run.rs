@@ -88,7 +88,7 @@ impl AsciiRun {
         scan(self.words(), input).ok().flatten()
     }
 
-    fn from_answer(answer: ffi::RunAnswer) -> Result<AsciiRun, Refusal> {
+    pub(crate) fn from_answer(answer: ffi::RunAnswer) -> Result<AsciiRun, Refusal> {
         Refusal::unless_accepted(answer.number, answer.place)?;
         Ok(AsciiRun { words: [answer.first, answer.second, answer.third], length: answer.length })
     }

@@ -1,6 +1,6 @@
 //! Tables: a lexer's words, decoded into a room.
 
-use crate::{Refusal, ffi};
+use crate::{AcceptRecord, AsciiRun, AsciiRunScan, ContinuationRecord, Refusal, ffi, lookup};
 use std::fmt;
 
 /// The most words that a table may have.
@@ -8,6 +8,12 @@ pub const MAX_WORDS: usize = 8192;
 
 /// The numbers that a table's room must have, whatever the table.
 pub const ROOM_NUMBERS: usize = 16_384;
+
+/// The target of an edge that the interpreter has to follow, by a continuation.
+pub const ESCAPE_STATE: u16 = 65534;
+
+/// The target of an edge that leads nowhere.
+pub const DEAD_STATE: u16 = 65535;
 
 /// Where a table's words begin in its room: behind their number and the places of the sections.
 const WORDS_AT: usize = 9;
@@ -47,6 +53,11 @@ pub struct Decoded {
 ///
 /// let table = Table::decode(&words)?;
 /// assert_eq!((table.modes(), table.states(), table.words().len()), (1, 1, 82));
+///
+/// let start = table.mode_start(0)?.unwrap();
+/// assert_eq!(table.char_target(start, 'p' as i32)?, start);
+/// assert_eq!(table.char_target(start, '°' as i32)?, lexer_dfa::DEAD_STATE);
+/// assert_eq!(table.scan(start, b"10 ply")?, Some(&b"10 ply"[..]));
 /// # Ok::<(), lexer_dfa::Refusal>(())
 /// ```
 #[derive(Clone, Eq, PartialEq)]
@@ -91,6 +102,103 @@ impl Table {
     /// The room, [`ROOM_NUMBERS`] long.
     pub fn room(&self) -> &[u32] {
         &self.room
+    }
+
+    /// Whether at least one mode is compiled.
+    pub fn has_compiled_modes(&self) -> bool {
+        lookup::has_compiled_modes(&self.room) == Ok(true)
+    }
+
+    /// For each mode whether it is compiled.
+    pub fn compiled_mode_flags(&self) -> Vec<bool> {
+        let mut flags = vec![0; self.modes()];
+        // A decoded table is never refused, and there is a number for each mode.
+        let _ = lookup::compiled_mode_flags(&self.room, &mut flags);
+        flags.into_iter().map(|flag| flag != 0).collect()
+    }
+
+    /// For each compiled mode how many states it has. ORDER at the first mode that starts below the
+    /// compiled one before it.
+    pub fn mode_state_counts(&self) -> Result<Vec<u32>, Refusal> {
+        let mut counts = vec![0; self.modes()];
+        let length = lookup::mode_state_counts(&self.room, &mut counts)?;
+        counts.truncate(length);
+        Ok(counts)
+    }
+
+    /// The state in which a mode starts; nothing for a mode that is negative, absent or not
+    /// compiled. Never refused.
+    #[inline]
+    pub fn mode_start(&self, mode: i32) -> Result<Option<u16>, Refusal> {
+        lookup::mode_start(&self.room, mode)
+    }
+
+    /// The number of a state's accept. Here and below, an absent state is refused with STATE at 0,
+    /// and nothing else is.
+    #[inline]
+    pub fn accept(&self, state: u16) -> Result<Option<u32>, Refusal> {
+        lookup::accept(&self.room, state)
+    }
+
+    /// Where a state goes on a symbol of 0 to 127; any other is STATE too.
+    #[inline]
+    pub fn ascii_target(&self, state: u16, symbol: u8) -> Result<u16, Refusal> {
+        lookup::ascii_target(&self.room, state, symbol)
+    }
+
+    /// Where a state goes on a character, or on any number; a negative one is read as unsigned.
+    #[inline]
+    pub fn char_target(&self, state: u16, symbol: i32) -> Result<u16, Refusal> {
+        lookup::char_target(&self.room, state, symbol)
+    }
+
+    /// Where a state goes at the end of the input.
+    #[inline]
+    pub fn eof_target(&self, state: u16) -> Result<u16, Refusal> {
+        lookup::eof_target(&self.room, state)
+    }
+
+    /// The number of a state's continuation on a character, ASCII among them.
+    #[inline]
+    pub fn char_continuation(&self, state: u16, symbol: i32) -> Result<Option<u32>, Refusal> {
+        lookup::char_continuation(&self.room, state, symbol)
+    }
+
+    /// The number of a state's continuation at the end of the input.
+    #[inline]
+    pub fn eof_continuation(&self, state: u16) -> Result<Option<u32>, Refusal> {
+        lookup::eof_continuation(&self.room, state)
+    }
+
+    /// The run of a state.
+    pub fn ascii_run(&self, state: u16) -> Result<AsciiRun, Refusal> {
+        lookup::ascii_run(&self.room, state)
+    }
+
+    /// The bytes at the front of the input that a state's run skips: a part of the input itself.
+    /// Nothing where the state has no run, which a run of no bytes is not.
+    #[inline]
+    pub fn scan<'a>(&self, state: u16, input: &'a [u8]) -> Result<Option<&'a [u8]>, Refusal> {
+        lookup::scan(&self.room, state, input)
+    }
+
+    /// How many bytes a state's run skips, and whether a byte that ends it was found there.
+    #[inline]
+    pub fn scan_length(&self, state: u16, input: &[u8]) -> Result<Option<AsciiRunScan>, Refusal> {
+        lookup::scan_length(&self.room, state, input)
+    }
+
+    /// The accept of that number, where there is one. Never refused.
+    pub fn accept_record(&self, accept: u32) -> Result<Option<AcceptRecord<'_>>, Refusal> {
+        lookup::accept_record(&self.room, accept)
+    }
+
+    /// The continuation of that number, where there is one. Never refused.
+    pub fn continuation_record(
+        &self,
+        continuation: u32,
+    ) -> Result<Option<ContinuationRecord<'_>>, Refusal> {
+        lookup::continuation_record(&self.room, continuation)
     }
 }
 

@@ -95,3 +95,22 @@ pub fn classification(row: &[u16], state: u16) -> Vec<u32> {
         }
     }
 }
+
+/// How many bytes of the input the run with these words skips, and whether an exit was found;
+/// nothing where there is no run. Until-runs stop only at their exit bytes and pass bytes of 128
+/// and above; ranges stop there; any takes all.
+pub fn scan(words: &[u32], input: &[u8]) -> Option<(usize, bool)> {
+    let bytes: Vec<u8> = words.iter().flat_map(|word| word.to_le_bytes()).collect();
+    let loops = |byte: u8| match bytes[0] {
+        1 => true,
+        kind @ 2..=4 => !bytes[1..usize::from(kind)].contains(&byte),
+        _ => bytes[4..][..2 * usize::from(bytes[1])]
+            .chunks(2)
+            .any(|range| (range[0]..=range[1]).contains(&byte)),
+    };
+    if bytes[0] == 0 {
+        return None;
+    }
+    let exit = input.iter().position(|&byte| !loops(byte));
+    Some((exit.unwrap_or(input.len()), exit.is_some()))
+}

@@ -4,6 +4,7 @@ pub mod class;
 pub mod classify;
 pub mod decode;
 pub mod examples;
+pub mod lookup;
 pub mod read_run;
 pub mod sample;
 pub mod scan;

@@ -11,7 +11,9 @@ mod examples;
 mod lists;
 #[cfg(not(no_oracle))]
 mod live;
+mod lookup;
 mod refusals;
+mod rooms;
 mod samples;
 mod tables;
 mod telling;
@@ -70,6 +72,9 @@ fn checks() -> Vec<(&'static str, Result<Check, String>)> {
         ("decode: rooms and lengths, by the plain reading", Ok(decode::rooms_and_lengths)),
         ("decode: past the limit, by the original", live!(decode::past_the_limit)),
         ("decode: a table's own room, by the plain reading", Ok(decode::owned)),
+        ("lookup: seeded tables, by the original", live!(lookup::seeded)),
+        ("lookup: samples and crowded tables, by the original", live!(lookup::samples)),
+        ("lookup: strange rooms, by the plain reading", Ok(lookup::strange)),
         ("samples: what stands in samples/", Ok(samples::are_written)),
         ("record: the sample of replay, by the original", sample()),
     ]

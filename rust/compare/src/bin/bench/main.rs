@@ -6,6 +6,8 @@
 #[cfg(not(no_oracle))]
 mod decode;
 #[cfg(not(no_oracle))]
+mod lookups;
+#[cfg(not(no_oracle))]
 mod runs;
 #[cfg(not(no_oracle))]
 mod timing;
@@ -22,6 +24,7 @@ fn main() {
     runs::scans();
     runs::classifications();
     decode::decodings();
+    lookups::lookups();
 }
 
 #[cfg(no_oracle)]

@@ -86,3 +86,59 @@ impl Pools {
         self.known.intern_wide(&mut self.wide, row)
     }
 }
+
+fn place<T>(list: &[T], item: &T) -> usize {
+    list.iter().position(|other| std::ptr::eq(other, item)).expect("an item of the list")
+}
+
+/// The number of a state's accept.
+pub fn accept(table: &CompiledLexerDfa, state: u16) -> Option<usize> {
+    Some(place(&table.accepts, table.accept(state)?))
+}
+
+/// The number of the continuation on a symbol.
+pub fn char_continuation(table: &CompiledLexerDfa, state: u16, symbol: i32) -> Option<usize> {
+    Some(place(&table.continuations, table.char_continuation(state, symbol)?))
+}
+
+/// The number of the continuation at the end of the input.
+pub fn eof_continuation(table: &CompiledLexerDfa, state: u16) -> Option<usize> {
+    Some(place(&table.continuations, table.eof_continuation(state)?))
+}
+
+fn action_words(actions: &[CompiledLexerActionTrace]) -> Vec<u32> {
+    let words = |action: &CompiledLexerActionTrace| {
+        [action.action_index as u32, action.rule_index as u32, action.behind as u32]
+    };
+    actions.iter().flat_map(words).collect()
+}
+
+/// The rule and the flag of each accept, and the words of its actions.
+pub fn accepts(table: &CompiledLexerDfa) -> Vec<(usize, bool, Vec<u32>)> {
+    let parts = |accept: &CompiledLexerAccept| {
+        (accept.rule_index, accept.consumed_eof, action_words(&accept.actions))
+    };
+    table.accepts.iter().map(parts).collect()
+}
+
+/// The words of the contexts and of the configs of each continuation.
+pub fn continuations(table: &CompiledLexerDfa) -> Vec<(Vec<u32>, Vec<u32>)> {
+    let context = |context: &CompiledLexerContext| match *context {
+        CompiledLexerContext::Singleton { parent, return_state } => {
+            [0, parent, return_state as u32]
+        }
+        CompiledLexerContext::Union { left, right } => [1, left, right],
+    };
+    let config = |config: &CompiledLexerConfig| {
+        let rule = config.alt_rule_index.map_or(u32::MAX, |rule| rule as u32);
+        let flags = [config.consumed_eof, config.passed_non_greedy].map(u32::from);
+        let [state, count] = [config.state, config.actions.len()].map(|number| number as u32);
+        let fields = [state, rule, flags[0], flags[1], config.context, count];
+        [&fields[..], &action_words(&config.actions)].concat()
+    };
+    let parts = |continuation: &CompiledLexerContinuation| {
+        let contexts = continuation.contexts.iter().flat_map(context).collect();
+        (contexts, continuation.configs.iter().flat_map(config).collect())
+    };
+    table.continuations.iter().map(parts).collect()
+}

@@ -1,0 +1,19 @@
+-- Each answer goes on from what was found.
+use Rattle.accepts.proofs.Laws.{chain}
+use Rattle.accepts.proofs.accept.Statement.{statement}
+use Rattle.accepts.proofs.accept.Tie as tie
+
+pub accept-spec : {M : Type 1} → statement M
+accept-spec =
+    tie.close
+    (tie.spec
+    (λ c κs. search chain)
+    (λ c. search chain)
+    (λ c. search chain)
+    (λ c. search chain)
+    (λ c. search chain)
+    (λ c. search chain)
+    (λ c. search chain)
+    (λ c. search chain)
+    (λ c. search chain)
+    (λ c. search chain))

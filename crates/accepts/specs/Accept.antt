@@ -1,0 +1,18 @@
+-- What a state accepts (document 01, "Lookups"). w is the room, s a state. Assumes nothing.
+use Prim.Native.Nat.{ℕ, _+_}
+use mathlib.Core.List.{List, [], _∷_}
+use lib.ListN.{getD}
+use Rattle.refusal.specs.Said.{Said, ok, no, STATE, NOT-TABLE}
+use Rattle.room_read.specs.Room.{ofState}
+use Rattle.accepts.specs.declared.Accepted.{Accepted}
+use Rattle.accepts.specs.declared.Accepted.the-variants.{Number, NoState, NotTable}
+
+-- a record's number or NONE, or a refusal
+abbrev pub said : Accepted → Said
+said (Number n) = ok (n ∷ [])
+said NoState = no STATE 0
+said NotTable = no NOT-TABLE 0
+
+-- "`accept` and the continuation lookups answer a record's number or NONE"; "a number only answered isn't followed"
+abbrev pub acceptOf : List ℕ → ℕ → Said
+acceptOf w s = ofState w s (λ p. ok (getD w (p + 3) 0 ∷ []))

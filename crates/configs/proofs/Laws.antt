@@ -1,0 +1,246 @@
+-- The laws of the continuations' records: where a record lies that is found whole, how to go on from it, and that `said` takes no two
+-- answers to one. Assumes nothing.
+use Prim.Native.Nat.{ℕ, zero, suc, _+_, _*_, _-_, _^_, _<_, _≤_}
+use native.Mathlib.Nat.{not-suc-le-zero}
+use native.Mathlib.Numerals.{sub-one}
+use native.Mathlib.Omega.{arith}
+use mathlib.Core.Path.{_≡_, refl, sym, ap, _∙_}
+use mathlib.Core.List.{List, [], _∷_}
+use lib.Dec.{ltb, leb}
+use lib.ListN.{length, getD}
+use mir.Syntax.{w64}
+use mir.Val.{Fits}
+use denote.Ref.{RefT}
+use borrow.Author.Needs.{needs}
+use borrow.Author.Tests.{le-leb, lt-leb, lt-ltb, le-ltb, ltb-true, leb-true}
+use Rattle.refusal.specs.Said.{Said, ok, no}
+use Rattle.room_read.specs.declared.Found.{Found}
+use Rattle.room_read.specs.declared.Found.the-variants.{At, Absent, Outside}
+use Rattle.room_read.specs.declared.Span.{Span}
+use Rattle.room_read.specs.Room.{follow}
+use Rattle.room_read.specs.Part.{PartOf}
+use Rattle.room_read.proofs.Records.{held, listed-in-room, there, absent, outside}
+use Rattle.configs.specs.declared.Whole.{Whole}
+use Rattle.configs.specs.declared.Whole.the-variants as whole
+use Rattle.configs.specs.declared.ContinuationRecord.{ContinuationRecord}
+use Rattle.configs.specs.declared.ContinuationRecord.the-variants.{Record, NoRecord, NotTable}
+use Rattle.configs.specs.Configs.{said, placeOf, pastContexts, pastConfig, pastConfigs, wholeBehind, wholeFrom, wholeAt, ofWhole}
+
+-- by the tests on the way
+pub ruleset cases = (needs, le-leb, lt-leb, lt-ltb, le-ltb)
+
+-- Configs, one behind the other
+
+pub config-end : (w : List ℕ) (e p : ℕ) {q : ℕ} → pastConfig w e p ≡ At q → (p ≤ q) × (q ≤ e)
+unfolding pastConfig
+config-end w e p {q} h =
+    let n = getD w (p + 5) 0 in
+    let h₁ = held (ltb (p + 5) e) h in
+    let h₂ = held (leb (n * 3 + (p + 6)) e) (h₁ .1) in
+    let s : n * 3 + (p + 6) ≡ q = cc in
+    let b : n * 3 + (p + 6) ≤ e = leb-true (n * 3 + (p + 6)) e (h₂ .0) in
+    (omega arith, omega arith)
+
+pub config-step : (w : List ℕ) (e here : ℕ) {p : ℕ} {got : Found} → got ≡ pastConfig w e here → got ≡ At p → p ≤ e
+config-step w e here g k = config-end w e here (sym g ∙ k) .1
+
+-- a config was passed, or is outside, or none is left
+pub configs-turn : (w : List ℕ) (e left here : ℕ) {p : ℕ} {got all : Found} → pastConfigs w e left here ≡ all → 0 < left → got ≡ pastConfig w e here → got ≡ At p → pastConfigs w e (left - 1) p ≡ all
+unfolding pastConfigs follow
+configs-turn w e zero here i h g k = absurd (not-suc-le-zero h)
+configs-turn w e (suc n) here i h g k = rw sub-one (rw (← g, k) at i)
+
+pub configs-absent : (w : List ℕ) (e left here : ℕ) {got all : Found} → pastConfigs w e left here ≡ all → 0 < left → got ≡ pastConfig w e here → got ≡ Absent → Outside ≡ all
+unfolding pastConfigs follow
+configs-absent w e zero here i h g k = absurd (not-suc-le-zero h)
+configs-absent w e (suc n) here i h g k = rw (← g, k) at i
+
+pub configs-outside : (w : List ℕ) (e left here : ℕ) {got all : Found} → pastConfigs w e left here ≡ all → 0 < left → got ≡ pastConfig w e here → got ≡ Outside → Outside ≡ all
+unfolding pastConfigs follow
+configs-outside w e zero here i h g k = absurd (not-suc-le-zero h)
+configs-outside w e (suc n) here i h g k = rw (← g, k) at i
+
+pub configs-done : (w : List ℕ) (e left here : ℕ) {all : Found} → pastConfigs w e left here ≡ all → left ≤ 0 → At here ≡ all
+unfolding pastConfigs
+configs-done w e zero here i h = i
+configs-done w e (suc n) here i h = absurd (not-suc-le-zero h)
+
+pub ruleset walking = (needs, config-step, configs-turn, configs-absent, configs-outside, configs-done)
+
+-- Where a record lies that is found whole
+
+-- where one step led on, and where it could not
+onward : {A : Type 0} (x : Found) (k : ℕ → A) (a o t : A) → (a ≡ t → ⊥) → (o ≡ t → ⊥) → follow x k a o ≡ t → (q : ℕ) × (x ≡ At q) × (k q ≡ t)
+unfolding follow
+onward (At q) k a o t f g h = (q, refl, h)
+onward Absent k a o t f g h = absurd (f h)
+onward Outside k a o t f g h = absurd (g h)
+
+not-outside : {q : ℕ} → Outside ≡ At q → ⊥
+not-outside e = let z : _≡_ {A = ℕ} 0 1 = cc in omega arith
+
+no-span : {p q z : ℕ} → whole.Outside ≡ whole.Spans p q z → ⊥
+no-span e = let z : _≡_ {A = ℕ} 0 1 = cc in omega arith
+
+no-absent : {p q z : ℕ} → whole.Absent ≡ whole.Spans p q z → ⊥
+no-absent e = let z : _≡_ {A = ℕ} 0 1 = cc in omega arith
+
+configs-end : (w : List ℕ) (e n p : ℕ) {z : ℕ} → pastConfigs w e n p ≡ At z → p ≤ e → (p ≤ z) × (z ≤ e)
+unfolding pastConfigs
+configs-end w e zero p {z} h k = let q : p ≡ z = cc in (omega arith, omega arith)
+configs-end w e (suc n) p {z} h k =
+    let o = onward (pastConfig w e p) (pastConfigs w e n) Outside Outside (At z) not-outside not-outside h in
+    let c = config-end w e p (o .1) in
+    let r = configs-end w e n (o .0) (o .2) (c .1) in
+    (omega arith, omega arith)
+
+contexts-end : (e p n : ℕ) {q : ℕ} → pastContexts e p n ≡ At q → (p + 1 ≤ q) × (q < e)
+unfolding pastContexts
+contexts-end e p n {q} h =
+    let h₁ = held (ltb (n * 3 + (p + 1)) e) h in
+    let s : n * 3 + (p + 1) ≡ q = cc in
+    let b : n * 3 + (p + 1) < e = ltb-true (n * 3 + (p + 1)) e (h₁ .0) in
+    (omega arith, omega arith)
+
+pub contexts-before : (e p n : ℕ) {q : ℕ} {got : Found} → got ≡ pastContexts e p n → got ≡ At q → q < e
+contexts-before e p n g k = contexts-end e p n (sym g ∙ k) .1
+
+-- a record starts in its section, which lies in the room
+place-lies : (w : List ℕ) (i : ℕ) {p : ℕ} → placeOf w i ≡ At p → (8 < length w) × (p < 9 + getD w 0 0) × (9 + getD w 0 0 ≤ length w)
+unfolding placeOf
+place-lies w i h =
+    let h₁ = held (ltb 8 (length w)) h in
+    let h₂ = held (ltb (getD w 3 0) (length w)) (h₁ .1) in
+    let h₃ = held (ltb (getD w 5 0) (length w)) (h₂ .1) in
+    let h₄ = held (ltb (getD w 6 0) (length w)) (h₃ .1) in
+    let h₅ = held (ltb (getD w 7 0) (length w)) (h₄ .1) in
+    let list = 9 + getD w 0 0 + getD w (getD w 3 0) 0 + getD w (getD w 5 0) 0 + getD w (getD w 6 0) 0 + getD w (getD w 7 0) 0 in
+    let l = listed-in-room w (getD w 8 0) (9 + getD w 0 0) list i (h₅ .1) in
+    (ltb-true 8 (length w) (h₁ .0), l .0, l .1)
+
+module _ (w : List ℕ) (i : ℕ) {p : ℕ} {got : Found} (g : got ≡ placeOf w i) (k : got ≡ At p) where
+  pub place-header : 0 < length w
+  place-header = let l = place-lies w i (sym g ∙ k) .0 in omega arith
+
+  pub place-before : p < 9 + getD w 0 0
+  place-before = place-lies w i (sym g ∙ k) .1
+
+  pub place-inside : 9 + getD w 0 0 ≤ length w
+  place-inside = place-lies w i (sym g ∙ k) .2
+
+-- its parts follow each other in the room
+record Lies (w : List ℕ) (p q z : ℕ) : Type 0 where
+  contexts : p + 1 ≤ q
+  configs : q + 1 ≤ z
+  inside : z ≤ length w
+
+lies : (w : List ℕ) (i : ℕ) {p q z : ℕ} → wholeAt w i ≡ whole.Spans p q z → Lies w p q z
+unfolding wholeAt wholeFrom wholeBehind
+lies w i {p} {q} {z} h =
+    let e = 9 + getD w 0 0 in
+    let t : Whole = whole.Spans p q z in
+    let a = onward (placeOf w i) (wholeFrom w e) whole.Absent whole.Outside t no-absent no-span h in
+    let b = onward (pastContexts e (a .0) (getD w (a .0) 0)) (wholeBehind w e (a .0)) whole.Outside whole.Outside t no-span no-span (a .2) in
+    let c = onward (pastConfigs w e (getD w (b .0) 0) (b .0 + 1)) (whole.Spans (a .0) (b .0)) whole.Outside whole.Outside t no-span no-span (b .2) in
+    let l = place-lies w i (a .1) in
+    let m = contexts-end e (a .0) (getD w (a .0) 0) (b .1) in
+    let n = configs-end w e (getD w (b .0) 0) (b .0 + 1) (c .1) (omega arith) in
+    let s : whole.Spans (a .0) (b .0) (c .0) ≡ whole.Spans p q z = c .2 in
+    let p₁ : a .0 ≡ p = cc in
+    let p₂ : b .0 ≡ q = cc in
+    let p₃ : c .0 ≡ z = cc in
+    record { contexts = omega arith; configs = omega arith; inside = omega arith }
+
+module _ (w : List ℕ) (i : ℕ) {p q z : ℕ} {got : Whole} (g : got ≡ wholeAt w i) (k : got ≡ whole.Spans p q z) where
+  pub contexts-count : p < length w
+  contexts-count = let l = lies w i (sym g ∙ k) in omega (arith, l .contexts, l .configs, l .inside)
+
+  pub contexts-bytes : length w * 4 < 2 ^ 63 → Fits w64 (p * 4)
+  contexts-bytes h = let l = lies w i (sym g ∙ k) in record { fits = omega (arith, l .contexts, l .configs, l .inside) }
+
+  pub contexts-first : length w * 4 < 2 ^ 63 → Fits w64 (p + 1)
+  contexts-first h = let l = lies w i (sym g ∙ k) in record { fits = omega (arith, l .contexts, l .configs, l .inside) }
+
+  pub contexts-part : p + 1 ≤ q
+  contexts-part = lies w i (sym g ∙ k) .contexts
+
+  pub contexts-room : q ≤ length w
+  contexts-room = let l = lies w i (sym g ∙ k) in omega (arith, l .configs, l .inside)
+
+  pub configs-count : q < length w
+  configs-count = let l = lies w i (sym g ∙ k) in omega (arith, l .configs, l .inside)
+
+  pub configs-bytes : length w * 4 < 2 ^ 63 → Fits w64 (q * 4)
+  configs-bytes h = let l = lies w i (sym g ∙ k) in record { fits = omega (arith, l .configs, l .inside) }
+
+  pub configs-first : length w * 4 < 2 ^ 63 → Fits w64 (q + 1)
+  configs-first h = let l = lies w i (sym g ∙ k) in record { fits = omega (arith, l .configs, l .inside) }
+
+  pub configs-part : q + 1 ≤ z
+  configs-part = lies w i (sym g ∙ k) .configs
+
+  pub configs-room : z ≤ length w
+  configs-room = lies w i (sym g ∙ k) .inside
+
+-- Going on with a record
+
+module _ {A : Type 0} (x : Whole) (f : ℕ → ℕ → ℕ → A) (a o : A) {got : Whole} where
+  pub whole-there : {p q z : ℕ} {all : A} → got ≡ x → got ≡ whole.Spans p q z → all ≡ f p q z → all ≡ ofWhole x f a o
+  unfolding ofWhole
+  whole-there g k h = h ∙ (rw (← g, k))
+
+  pub whole-absent : got ≡ x → got ≡ whole.Absent → a ≡ ofWhole x f a o
+  unfolding ofWhole
+  whole-absent g k = rw (← g, k)
+
+  pub whole-outside : got ≡ x → got ≡ whole.Outside → o ≡ ofWhole x f a o
+  unfolding ofWhole
+  whole-outside g k = rw (← g, k)
+
+module _ (room : RefT (List ℕ)) (x : Whole) (f g : ℕ → ℕ → ℕ → ℕ) {got : Whole} {part : RefT (List ℕ)} where
+  pub part-there : {p q z : ℕ} → got ≡ x → got ≡ whole.Spans p q z → PartOf room (f p q z) (g p q z) part → PartOf room (ofWhole x f 0 0) (ofWhole x g 0 0) part
+  unfolding ofWhole
+  part-there e h k = rw (sym e ∙ h) k
+
+  pub part-absent : got ≡ x → got ≡ whole.Absent → PartOf room 0 0 part → PartOf room (ofWhole x f 0 0) (ofWhole x g 0 0) part
+  unfolding ofWhole
+  part-absent e h k = rw (sym e ∙ h) k
+
+  pub part-outside : got ≡ x → got ≡ whole.Outside → PartOf room 0 0 part → PartOf room (ofWhole x f 0 0) (ofWhole x g 0 0) part
+  unfolding ofWhole
+  part-outside e h k = rw (sym e ∙ h) k
+
+module _ (x : Whole) (f g : ℕ → ℕ → ℕ → ℕ) {got : Whole} {span : Span} where
+  pub span-there : {p q z : ℕ} → got ≡ x → got ≡ whole.Spans p q z → span ≡ record { from = f p q z; length = g p q z } → span ≡ record { from = ofWhole x f 0 0; length = ofWhole x g 0 0 }
+  unfolding ofWhole
+  span-there e h k = k ∙ (rw (sym e ∙ h))
+
+  pub span-absent : got ≡ x → got ≡ whole.Absent → span ≡ record { from = 0; length = 0 } → span ≡ record { from = ofWhole x f 0 0; length = ofWhole x g 0 0 }
+  unfolding ofWhole
+  span-absent e h k = k ∙ (rw (sym e ∙ h))
+
+  pub span-outside : got ≡ x → got ≡ whole.Outside → span ≡ record { from = 0; length = 0 } → span ≡ record { from = ofWhole x f 0 0; length = ofWhole x g 0 0 }
+  unfolding ofWhole
+  span-outside e h k = k ∙ (rw (sym e ∙ h))
+
+pub ruleset finding = (needs, there, absent, outside, contexts-before, place-header, place-before, place-inside)
+
+pub ruleset parting =
+    (needs, contexts-count, contexts-bytes, contexts-first, contexts-part, contexts-room, configs-count, configs-bytes, configs-first, configs-part, configs-room, whole-there, whole-absent, whole-outside, part-there, part-absent, part-outside, span-there, span-absent, span-outside)
+
+-- `said` takes no two answers to one: what it says gives the answer back
+abbrev listBack : List ℕ → ContinuationRecord
+listBack [] = NoRecord
+listBack (n ∷ l) = Record n (getD l 0 0)
+
+abbrev back : Said → ContinuationRecord
+back (ok l) = listBack l
+back (no n p) = NotTable
+
+back-said : (x : ContinuationRecord) → back (said x) ≡ x
+back-said (Record n m) = refl
+back-said NoRecord = refl
+back-said NotTable = refl
+
+pub said-one : (x y : ContinuationRecord) → said x ≡ said y → x ≡ y
+said-one x y e = sym (back-said x) ∙ ap back e ∙ back-said y

@@ -1,0 +1,20 @@
+-- The header is there, or nothing is found.
+use Rattle.configs.specs.Configs.{placeOf}
+use Rattle.configs.proofs.Laws.{cases}
+use Rattle.configs.proofs.place.Statement.{statement}
+use Rattle.configs.proofs.place.Tie as tie
+
+pub place-spec : {M : Type 1} → statement M
+unfolding placeOf
+place-spec =
+    tie.close
+    (tie.spec
+    (λ c. search cases)
+    (λ c. search cases)
+    (λ c. search cases)
+    (λ c. search cases)
+    (λ c. search cases)
+    (λ c. search cases)
+    (λ c κs. search cases)
+    (λ c. search cases)
+    (λ c. search cases))

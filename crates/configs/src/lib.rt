@@ -1,0 +1,264 @@
+// The record of a continuation: its contexts and its configs, as parts of the room. The room may be of any length and hold any numbers.
+ghost use mathlib.Core.Path.{_≡_};
+ghost use Prim.Native.Nat.{_+_, _-_, _^_, _<_, _≤_};
+ghost use lib.ListN.{length};
+ghost use Rattle.room_read.specs.Room.{listedIn};
+ghost use Rattle.room_read.specs.Part.{PartOf};
+ghost use Rattle.configs.specs.Configs.{said, placePast, placeOf, pastContexts, pastActions, pastConfig, pastConfigs, wholeBehind, wholeFrom, wholeAt, recordOf, contextsFrom, contextsLength, contextsSpan, configsFrom, configsLength, configsSpan};
+use room_read::Found;
+use room_read::Span;
+
+// Where the context count and the config count of a record stand, and where it ends.
+enum Whole {
+    Spans(usize, usize, usize),
+    Absent,
+    Outside,
+}
+
+// How many contexts and configs a record has; or no such record, or no table.
+pub enum ContinuationRecord {
+    Record { contexts: u32, configs: u32 },
+    NoRecord,
+    NotTable,
+}
+
+fn place_from(
+    room: &[u32],
+    words: u32,
+    runs: u32,
+    wides: u32,
+    accepts: u32,
+    escapes: u32,
+    start: u32,
+    i: u32,
+) -> Found
+    ensures { λ r. ⌜ r ≡ listedIn (now (room .entry)) start (9 + words) (9 + words + runs + wides + accepts + escapes) i ⌝ }
+{
+    let end = 9 + (words as usize);
+    let list = end + (runs as usize) + (wides as usize) + (accepts as usize) + (escapes as usize);
+    room_read::listed_in(room, start, end, list, i)
+}
+
+fn place_past(
+    room: &[u32],
+    words: u32,
+    runs: u32,
+    wides: u32,
+    accepts: u32,
+    escapes: u32,
+    start: u32,
+    i: u32,
+) -> Found
+    ensures { λ r. ⌜ r ≡ placePast (now (room .entry)) words runs wides accepts escapes start i ⌝ }
+{
+    if (runs as usize) < room.len() {
+        if (wides as usize) < room.len() {
+            if (accepts as usize) < room.len() {
+                if (escapes as usize) < room.len() {
+                    return place_from(
+                        room,
+                        words,
+                        room[runs as usize],
+                        room[wides as usize],
+                        room[accepts as usize],
+                        room[escapes as usize],
+                        start,
+                        i,
+                    );
+                }
+            }
+        }
+    }
+    Found::Outside
+}
+
+fn place(room: &[u32], i: u32) -> Found
+    ensures { λ r. ⌜ r ≡ placeOf (now (room .entry)) i ⌝ }
+{
+    if 8 < room.len() {
+        return place_past(
+            room,
+            room[0],
+            room[3],
+            room[5],
+            room[6],
+            room[7],
+            room[8],
+            i,
+        );
+    }
+    Found::Outside
+}
+
+fn past_contexts(end: usize, at: usize, count: u32) -> Found
+    requires { ⌜ at < 2 ^ 62 ⌝ }
+    ensures { λ r. ⌜ r ≡ pastContexts end at count ⌝ }
+{
+    let next = (count as usize) * 3 + (at + 1);
+    if next < end {
+        return Found::At(next);
+    }
+    Found::Outside
+}
+
+fn past_actions(end: usize, at: usize, count: u32) -> Found
+    requires { ⌜ at < 2 ^ 62 ⌝ }
+    ensures { λ r. ⌜ r ≡ pastActions end at count ⌝ }
+{
+    let next = (count as usize) * 3 + (at + 6);
+    if next <= end {
+        return Found::At(next);
+    }
+    Found::Outside
+}
+
+// Where the config at a place ends.
+fn past_config(room: &[u32], end: usize, at: usize) -> Found
+    requires { ⌜ (at ≤ end) × (end ≤ length (now room)) ⌝ }
+    ensures { λ r. ⌜ r ≡ pastConfig (now (room .entry)) end at ⌝ }
+{
+    if at + 5 < end {
+        return past_actions(end, at, room[at + 5]);
+    }
+    Found::Outside
+}
+
+// Where `count` configs from a place on end.
+fn past_configs(room: &[u32], end: usize, count: u32, at: usize) -> Found
+    requires { ⌜ (at ≤ end) × (end ≤ length (now room)) ⌝ }
+    ensures { λ r. ⌜ r ≡ pastConfigs (now (room .entry)) end count at ⌝ }
+{
+    let mut left = count;
+    let mut here = at;
+    while 0 < left {
+        match past_config(room, end, here) {
+            Found::At(p) => {
+                here = p;
+                left -= 1;
+            }
+            Found::Absent => {
+                return Found::Outside;
+            }
+            Found::Outside => {
+                return Found::Outside;
+            }
+        }
+    }
+    Found::At(here)
+}
+
+fn whole_behind(room: &[u32], end: usize, at: usize, configs: usize) -> Whole
+    requires { ⌜ (configs < end) × (end ≤ length (now room)) ⌝ }
+    ensures { λ r. ⌜ r ≡ wholeBehind (now (room .entry)) end at configs ⌝ }
+{
+    match past_configs(room, end, room[configs], configs + 1) {
+        Found::At(z) => Whole::Spans(at, configs, z),
+        Found::Absent => Whole::Outside,
+        Found::Outside => Whole::Outside,
+    }
+}
+
+// The record at a place, if all of it lies before `end`.
+fn whole_from(room: &[u32], end: usize, at: usize) -> Whole
+    requires { ⌜ (at < end) × (end ≤ length (now room)) ⌝ }
+    ensures { λ r. ⌜ r ≡ wholeFrom (now (room .entry)) end at ⌝ }
+{
+    match past_contexts(end, at, room[at]) {
+        Found::At(q) => whole_behind(room, end, at, q),
+        Found::Absent => Whole::Outside,
+        Found::Outside => Whole::Outside,
+    }
+}
+
+fn whole_in(room: &[u32], words: u32, at: usize) -> Whole
+    requires { ⌜ (at < 9 + words) × (9 + words ≤ length (now room)) ⌝ }
+    ensures { λ r. ⌜ r ≡ wholeFrom (now (room .entry)) (9 + words) at ⌝ }
+{
+    whole_from(room, 9 + (words as usize), at)
+}
+
+// The record with a number, whole.
+fn find_whole(room: &[u32], i: u32) -> Whole
+    ensures { λ r. ⌜ r ≡ wholeAt (now (room .entry)) i ⌝ }
+{
+    match place(room, i) {
+        Found::At(p) => whole_in(room, room[0], p),
+        Found::Absent => Whole::Absent,
+        Found::Outside => Whole::Outside,
+    }
+}
+
+// The record of a continuation, without its contexts and configs.
+pub fn continuation_record(room: &[u32], number: u32) -> ContinuationRecord
+    ensures { λ r. ⌜ said r ≡ recordOf (now (room .entry)) number ⌝ }
+{
+    match find_whole(room, number) {
+        Whole::Spans(p, q, _) => ContinuationRecord::Record {
+            contexts: room[p],
+            configs: room[q],
+        },
+        Whole::Absent => ContinuationRecord::NoRecord,
+        Whole::Outside => ContinuationRecord::NotTable,
+    }
+}
+
+fn part(room: &[u32], from: usize, end: usize) -> &[u32]
+    requires { ⌜ (from ≤ end) × (end ≤ length (now room)) ⌝ }
+    ensures { λ r. ⌜ PartOf (room .entry) from (end - from) r ⌝ }
+{
+    &room[from..end]
+}
+
+// The contexts of a continuation, three numbers each, as a part of the room.
+pub fn continuation_contexts(room: &[u32], number: u32) -> &[u32]
+    ensures { λ r. ⌜ PartOf (room .entry) (contextsFrom (now (room .entry)) number) (contextsLength (now (room .entry)) number) r ⌝ }
+{
+    match find_whole(room, number) {
+        Whole::Spans(p, q, _) => part(room, p + 1, q),
+        Whole::Absent => part(room, 0, 0),
+        Whole::Outside => part(room, 0, 0),
+    }
+}
+
+// The configs of a continuation, each with its actions, as a part of the room.
+pub fn continuation_configs(room: &[u32], number: u32) -> &[u32]
+    ensures { λ r. ⌜ PartOf (room .entry) (configsFrom (now (room .entry)) number) (configsLength (now (room .entry)) number) r ⌝ }
+{
+    match find_whole(room, number) {
+        Whole::Spans(_, q, z) => part(room, q + 1, z),
+        Whole::Absent => part(room, 0, 0),
+        Whole::Outside => part(room, 0, 0),
+    }
+}
+
+fn span_between(from: usize, end: usize) -> Span
+    requires { ⌜ from ≤ end ⌝ }
+    ensures { λ r. ⌜ r ≡ record { from = from; length = end - from } ⌝ }
+{
+    Span {
+        from,
+        length: end - from,
+    }
+}
+
+// The contexts by their place in the room, for a caller that can't be handed a part.
+pub fn continuation_contexts_span(room: &[u32], number: u32) -> Span
+    ensures { λ r. ⌜ r ≡ contextsSpan (now (room .entry)) number ⌝ }
+{
+    match find_whole(room, number) {
+        Whole::Spans(p, q, _) => span_between(p + 1, q),
+        Whole::Absent => span_between(0, 0),
+        Whole::Outside => span_between(0, 0),
+    }
+}
+
+// The configs by their place in the room.
+pub fn continuation_configs_span(room: &[u32], number: u32) -> Span
+    ensures { λ r. ⌜ r ≡ configsSpan (now (room .entry)) number ⌝ }
+{
+    match find_whole(room, number) {
+        Whole::Spans(_, q, z) => span_between(q + 1, z),
+        Whole::Absent => span_between(0, 0),
+        Whole::Outside => span_between(0, 0),
+    }
+}

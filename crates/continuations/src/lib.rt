@@ -1,0 +1,133 @@
+// The continuation of an escaped edge: on a character, and at the end of the input. The room may be of any length and hold any numbers.
+ghost use mathlib.Core.Path.{_≡_};
+ghost use Prim.Native.Nat.{_+_};
+ghost use Rattle.room_read.specs.Room.{listedIn};
+ghost use Rattle.continuations.specs.Continuation.{said, rowPast, rowAt, searchRow, charInRow, charContinuation, eofInRow, eofContinuation};
+use refusal::NONE;
+use room_read::Found;
+use room_read::Hit;
+
+// A record's number or NONE; or no such state, or no table.
+pub enum Continuation {
+    Number(u32),
+    NoState,
+    NotTable,
+}
+
+fn row_from(
+    room: &[u32],
+    words: u32,
+    runs: u32,
+    wides: u32,
+    accepts: u32,
+    start: u32,
+    end: u32,
+    row: u32,
+) -> Found
+    ensures { λ r. ⌜ r ≡ listedIn (now (room .entry)) start end (9 + words + runs + wides + accepts) row ⌝ }
+{
+    let list = 9 + (words as usize) + (runs as usize) + (wides as usize) + (accepts as usize);
+    room_read::listed_in(room, start, end as usize, list, row)
+}
+
+fn row_past(
+    room: &[u32],
+    words: u32,
+    runs: u32,
+    wides: u32,
+    accepts: u32,
+    start: u32,
+    end: u32,
+    row: u32,
+) -> Found
+    ensures { λ r. ⌜ r ≡ rowPast (now (room .entry)) words runs wides accepts start end row ⌝ }
+{
+    if (runs as usize) < room.len() {
+        if (wides as usize) < room.len() {
+            if (accepts as usize) < room.len() {
+                return row_from(
+                    room,
+                    words,
+                    room[runs as usize],
+                    room[wides as usize],
+                    room[accepts as usize],
+                    start,
+                    end,
+                    row,
+                );
+            }
+        }
+    }
+    Found::Outside
+}
+
+fn find_row(room: &[u32], row: u32) -> Found
+    ensures { λ r. ⌜ r ≡ rowAt (now (room .entry)) row ⌝ }
+{
+    if 8 < room.len() {
+        return row_past(
+            room,
+            room[0],
+            room[3],
+            room[5],
+            room[6],
+            room[7],
+            room[8],
+            row,
+        );
+    }
+    Found::Outside
+}
+
+// The continuation in the escape row whose length stands at `at`.
+fn search_row(room: &[u32], at: usize, end: u32, symbol: u32) -> Continuation
+    ensures { λ r. ⌜ said r ≡ searchRow (now (room .entry)) at end symbol ⌝ }
+{
+    match room_read::search_row(room, at, end, symbol) {
+        Hit::Third(c) => Continuation::Number(c),
+        Hit::Gap => Continuation::Number(NONE),
+        Hit::Outside => Continuation::NotTable,
+    }
+}
+
+fn char_in_row(room: &[u32], row: u32, symbol: u32) -> Continuation
+    ensures { λ r. ⌜ said r ≡ charInRow (now (room .entry)) row symbol ⌝ }
+{
+    match find_row(room, row) {
+        Found::At(p) => search_row(room, p + 1, room[8], symbol),
+        Found::Absent => Continuation::NotTable,
+        Found::Outside => Continuation::NotTable,
+    }
+}
+
+// The continuation on a character, or on any 32-bit word that stands for one.
+pub fn char_continuation(room: &[u32], state: u16, symbol: u32) -> Continuation
+    ensures { λ r. ⌜ said r ≡ charContinuation (now (room .entry)) state symbol ⌝ }
+{
+    match room_read::find_state(room, state) {
+        Found::At(_) => char_in_row(room, state as u32, symbol),
+        Found::Absent => Continuation::NoState,
+        Found::Outside => Continuation::NotTable,
+    }
+}
+
+fn eof_in_row(room: &[u32], row: u32) -> Continuation
+    ensures { λ r. ⌜ said r ≡ eofInRow (now (room .entry)) row ⌝ }
+{
+    match find_row(room, row) {
+        Found::At(p) => Continuation::Number(room[p]),
+        Found::Absent => Continuation::NotTable,
+        Found::Outside => Continuation::NotTable,
+    }
+}
+
+// The continuation at the end of the input.
+pub fn eof_continuation(room: &[u32], state: u16) -> Continuation
+    ensures { λ r. ⌜ said r ≡ eofContinuation (now (room .entry)) state ⌝ }
+{
+    match room_read::find_state(room, state) {
+        Found::At(_) => eof_in_row(room, state as u32),
+        Found::Absent => Continuation::NoState,
+        Found::Outside => Continuation::NotTable,
+    }
+}

@@ -1,0 +1,158 @@
+// Table to words: encoding hands the words of a room on, section by section, once it has judged the room.
+ghost use mathlib.Core.Path.{_≡_};
+ghost use Prim.Native.Nat.{_≤_, _-_};
+ghost use lib.ListN.{length, getD, take, drop};
+ghost use Rattle.layout.specs.declared.Sections.the-variants.{Found};
+ghost use Rattle.layout.specs.Layout.{layoutOf};
+ghost use Rattle.written.specs.Over.{over, lay, zeros};
+ghost use Rattle.judge.specs.Judge.{tableIn};
+ghost use Rattle.encode.specs.Encode.{Spans, encodeOf, outOf};
+use layout::Sections;
+use refusal::NOT_TABLE;
+use refusal::ROOM;
+use refusal::Refusal;
+
+// How many words were written, or why none were.
+pub enum Encoded {
+    Words(usize),
+    Refused(Refusal),
+}
+
+// Writes a section from the front of its own part of the output.
+fn write_section(section: &[u32], out: &mut [u32])
+    requires { ⌜ length (now section) ≤ length (now out) ⌝ }
+    ensures { λ _. ⌜ now (out .exit) ≡ over (now (section .entry)) (now (out .entry)) ⌝ }
+{
+    let mut i = 0;
+    while i < section.len() {
+        out[i] = section[i];
+        i += 1;
+    }
+}
+
+// Writes the section from `at` to before `behind` into its part of the output.
+fn write_at(words: &[u32], at: usize, behind: usize, out: &mut [u32])
+    requires section { ⌜ Spans (now words) at behind ⌝ }
+    requires fits { ⌜ length (now words) ≤ length (now out) ⌝ }
+    ensures { λ _. ⌜ now (out .exit) ≡ lay at (take (behind - at) (drop at (now (words .entry)))) (now (out .entry)) ⌝ }
+{
+    write_section(&words[at..behind], &mut out[at..]);
+}
+
+// Writes three sections, which start at `at`, `second` and `third` and end before `behind`.
+fn write_three(
+    words: &[u32],
+    at: usize,
+    second: usize,
+    third: usize,
+    behind: usize,
+    out: &mut [u32],
+)
+    requires one { ⌜ Spans (now words) at second ⌝ }
+    requires two { ⌜ Spans (now words) second third ⌝ }
+    requires three { ⌜ Spans (now words) third behind ⌝ }
+    requires fits { ⌜ length (now words) ≤ length (now out) ⌝ }
+    ensures { λ _. ⌜ now (out .exit) ≡ lay at (take (behind - at) (drop at (now (words .entry)))) (now (out .entry)) ⌝ }
+{
+    write_at(words, at, second, out);
+    write_at(words, second, third, out);
+    write_at(words, third, behind, out);
+}
+
+// Writes the tag and the eight sections, each into its own part of the output.
+fn write_sections(
+    words: &[u32],
+    modes: usize,
+    states: usize,
+    runs: usize,
+    ascii_rows: usize,
+    wide_rows: usize,
+    accepts: usize,
+    escape_rows: usize,
+    continuations: usize,
+    out: &mut [u32],
+)
+    requires found { ⌜ layoutOf (now words) ≡ Found modes states runs «ascii_rows» «wide_rows» accepts «escape_rows» continuations ⌝ }
+    requires fits { ⌜ length (now words) ≤ length (now out) ⌝ }
+    ensures { λ _. ⌜ now (out .exit) ≡ lay 0 (now (words .entry)) (now (out .entry)) ⌝ }
+{
+    write_three(words, 0, modes, states, runs, out);
+    write_three(words, runs, ascii_rows, wide_rows, accepts, out);
+    write_three(words, accepts, escape_rows, continuations, words.len(), out);
+}
+
+// Writes the words of a room that is a table of `count` words into an output that is all zeros.
+fn write_table(
+    count: u32,
+    room: &[u32],
+    modes: usize,
+    states: usize,
+    runs: usize,
+    ascii_rows: usize,
+    wide_rows: usize,
+    accepts: usize,
+    escape_rows: usize,
+    continuations: usize,
+    out: &mut [u32],
+) -> Encoded
+    requires first { ⌜ count ≡ getD (now room) 0 0 ⌝ }
+    requires found { ⌜ tableIn (now room) ≡ Found modes states runs «ascii_rows» «wide_rows» accepts «escape_rows» continuations ⌝ }
+    requires cleared { ⌜ now out ≡ zeros (length (now out)) ⌝ }
+    ensures { λ r. ⌜ (r ≡ encodeOf (now (room .entry)) (length (now (out .entry)))) × (now (out .exit) ≡ outOf (now (room .entry)) (length (now (out .entry)))) ⌝ }
+{
+    let words = count as usize;
+    if out.len() < words {
+        return Encoded::Refused(Refusal {
+            number: ROOM,
+            place: 0,
+        });
+    }
+    write_sections(
+        &room[9..9 + words],
+        modes,
+        states,
+        runs,
+        ascii_rows,
+        wide_rows,
+        accepts,
+        escape_rows,
+        continuations,
+        out,
+    );
+    Encoded::Words(words)
+}
+
+// Encodes the table in a room. Refused: every number of the output is 0. Accepted: the table's words, flags 0 or 1, then zeros.
+pub fn encode(room: &[u32], out: &mut [u32]) -> Encoded
+    ensures { λ r. ⌜ (r ≡ encodeOf (now (room .entry)) (length (now (out .entry)))) × (now (out .exit) ≡ outOf (now (room .entry)) (length (now (out .entry)))) ⌝ }
+{
+    written::clear(out);
+    match judge::table_in(room) {
+        Sections::Found {
+            modes,
+            states,
+            runs,
+            ascii_rows,
+            wide_rows,
+            accepts,
+            escape_rows,
+            continuations,
+        } => write_table(
+            room[0],
+            room,
+            modes,
+            states,
+            runs,
+            ascii_rows,
+            wide_rows,
+            accepts,
+            escape_rows,
+            continuations,
+            out,
+        ),
+        Sections::Unfound(_) => Encoded::Refused(Refusal {
+            number: NOT_TABLE,
+            place: 0,
+        }),
+    }
+}

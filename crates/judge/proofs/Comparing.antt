@@ -1,0 +1,188 @@
+-- The laws of the loops and chains that compare a room, by the tests that the code makes: what is to come, compared from here, gives
+-- what all of it gives. `ok` is what a test answered, `got` what a reader did. Assumes nothing.
+use Prim.Native.Nat.{ℕ, zero, suc, _+_, _*_, _-_, _^_, _<_, _≤_}
+use native.Mathlib.Nat.{not-suc-le-zero}
+use native.Mathlib.Numerals.{sub-one, add-one}
+use native.Mathlib.Omega.{arith}
+use mathlib.Core.Path.{_≡_, refl, sym, _∙_}
+use mathlib.Core.List.{List, [], _∷_, _++_}
+use mathlib.Core.Bool.{Bool, true, false, _&&_, and-false}
+use mir.Syntax.{w64}
+use mir.Val.{Fits}
+use borrow.Author.Needs.{needs}
+use borrow.Author.Tests.{ltb-true, lt-ltb, le-ltb, eq-eqb, ne-eqb}
+use lib.Dec.{ltb, eqb}
+use lib.ListN.{length, getD, drop-of-length-le}
+use lib.Seq.{drop-cons}
+use Rattle.refusal.specs.declared.Refusal.{Refusal}
+use Rattle.refusal.specs.Said.{NOT-TABLE}
+use Rattle.refusal.specs.Lists.{pick, every}
+use Rattle.words.specs.declared.Place.{Place}
+use Rattle.words.specs.declared.Place.the-variants.{Next, Refused}
+use Rattle.words.specs.Parse as parse
+use Rattle.words.specs.Parse.{andThen}
+use Rattle.words.specs.Records.{runAt, wideAt, acceptAt, escapeAt, continuationAt}
+use Rattle.rules.specs.Rules.{everyFrom, walk, everyIn}
+use Rattle.rules.specs.Rules as rules
+use Rattle.rules.proofs.Laws.{rest, passed, failed, judged-all}
+use Rattle.room.specs.Room.{startsFrom, starts, each, shifted, placed, laterPlaces, places}
+use Rattle.room.proofs.Writing.{was, run-limit, wide-limit, accept-limit, escape-limit, continuation-limit}
+use Rattle.room.proofs.Records.{inner-fits, accept-flag, config-flag, config-other, continuation-configs, continuation-count}
+use Rattle.room.proofs.Tables.{before-1, before-2, before-3, before-4}
+use Rattle.judge.specs.Standing.{standsAt, standing, emptyFrom, escapePlaces, widePlaces}
+
+-- One number
+
+pub stands-past : (x n : ℕ) (d : List ℕ) → length d ≤ n → false ≡ standsAt x n d
+unfolding standsAt
+stands-past x n d h = rw (le-ltb n (length d) h)
+
+pub stands-there : (x n : ℕ) (d : List ℕ) {ok : Bool} → n < length d → ok ≡ eqb (getD d n 0) x → ok ≡ standsAt x n d
+unfolding standsAt
+stands-there x n d h e = e ∙ (rw (lt-ltb n (length d) h))
+
+-- what stands, stands within the room
+stands-within : (x n : ℕ) (d : List ℕ) → standsAt x n d ≡ true → n < length d
+unfolding standsAt
+stands-within x n d h = go (ltb n (length d)) refl h
+  where
+    go : (b : Bool) → ltb n (length d) ≡ b → (b && eqb (getD d n 0) x) ≡ true → n < length d
+    go true e k = ltb-true n (length d) e
+    go false e k = let z : _≡_ {A = ℕ} 0 1 = cc in absurd (omega arith)
+
+pub next-fits : (x n : ℕ) (d : List ℕ) {ok : Bool} → ok ≡ standsAt x n d → ok ≡ true → length d * 4 < 2 ^ 63 → Fits w64 (n + 1)
+next-fits x n d e i l = let h : n < length d = stands-within x n d (sym e ∙ i) in omega arith
+
+pub ruleset standing-one = (needs, stands-past, stands-there)
+
+-- The places of records: g reads them
+
+module _ (g : ℕ → Place) (d : List ℕ) where
+  abbrev pub coming : ℕ → ℕ → ℕ → Place
+  coming left here m = standing (each shifted (starts g left here)) m d
+
+  module _ (left here m : ℕ) {got all : Place} where
+    pub place-passed : {p : ℕ} {ok : Bool} → coming left here m ≡ all → 0 < left → got ≡ g here → got ≡ Next p → ok ≡ standsAt (here + 9) m d → ok ≡ true → coming (left - 1) p (m + 1) ≡ all
+    unfolding each starts startsFrom standing
+    place-passed {p} i h e n o y = go left h i
+      where
+        go : (k : ℕ) → 0 < k → coming k here m ≡ all → coming (k - 1) p (m + 1) ≡ all
+        go zero h i = absurd (not-suc-le-zero h)
+        go (suc k) h i = rw sub-one (rw (← e, n, ← o, y) at i)
+
+    pub place-failed : {p : ℕ} {r : Place} {ok : Bool} → coming left here m ≡ all → 0 < left → got ≡ g here → got ≡ Next p → ok ≡ standsAt (here + 9) m d → ok ≡ false → r ≡ parse.refused NOT-TABLE 0 → r ≡ all
+    unfolding each starts startsFrom standing
+    place-failed {p} {r} i h e n o y j = go left h i
+      where
+        go : (k : ℕ) → 0 < k → coming k here m ≡ all → r ≡ all
+        go zero h i = absurd (not-suc-le-zero h)
+        go (suc k) h i = j ∙ (rw (← e, n, ← o, y) at i)
+
+    pub place-lost : {r : Refusal} → coming left here m ≡ all → 0 < left → got ≡ g here → got ≡ Refused r → Next m ≡ all
+    unfolding each starts startsFrom standing
+    place-lost i h e n = go left h i
+      where
+        go : (k : ℕ) → 0 < k → coming k here m ≡ all → Next m ≡ all
+        go zero h i = absurd (not-suc-le-zero h)
+        go (suc k) h i = rw (← e, n) at i
+
+  pub places-done : (left here m : ℕ) {all : Place} → coming left here m ≡ all → left ≤ 0 → Next m ≡ all
+  unfolding each starts standing
+  places-done zero here m i h = i
+  places-done (suc k) here m i h = absurd (not-suc-le-zero h)
+
+pub places-start : (read : List ℕ → ℕ → Place) (w d : List ℕ) (at n : ℕ) → coming (read w) d (getD w at 0) (at + 1) n ≡ standing (placed read w at) n d
+unfolding placed
+places-start read w d at n = refl
+
+-- what a loop over places is left with
+pub ruleset placing = (needs, places-start, place-passed, place-failed, place-lost, places-done, next-fits, run-limit, wide-limit, accept-limit, escape-limit, continuation-limit)
+
+-- One list behind another
+
+pub standing-append : (xs ys : List ℕ) (n : ℕ) (d : List ℕ) → standing (xs ++ ys) n d ≡ andThen (standing xs n d) (λ p. standing ys p d)
+unfolding standing andThen
+standing-append [] ys n d = refl
+standing-append (x ∷ xs) ys n d = go (standsAt x n d) (standing-append xs ys (n + 1) d)
+  where
+    go : (b : Bool) → standing (xs ++ ys) (n + 1) d ≡ andThen (standing xs (n + 1) d) (λ p. standing ys p d)
+        → pick b (standing (xs ++ ys) (n + 1) d) (parse.refused NOT-TABLE 0) ≡ andThen (pick b (standing xs (n + 1) d) (parse.refused NOT-TABLE 0)) (λ p. standing ys p d)
+    go true h = h
+    go false h = refl
+
+-- a list stood, or did not
+module _ (xs ys : List ℕ) (n : ℕ) (d : List ℕ) {got : Place} where
+  stood : {p : ℕ} {r : Place} → got ≡ standing xs n d → got ≡ Next p → r ≡ standing ys p d → r ≡ standing (xs ++ ys) n d
+  unfolding andThen
+  stood e i h = h ∙ sym (standing-append xs ys n d ∙ (rw (← e, i)))
+
+  differed : {r : Refusal} → got ≡ standing xs n d → got ≡ Refused r → Refused r ≡ standing (xs ++ ys) n d
+  unfolding andThen
+  differed e i = sym (standing-append xs ys n d ∙ (rw (← e, i)))
+
+-- of each part of the places
+module _ (w : List ℕ) (e c n : ℕ) (d : List ℕ) {got : Place} where
+  pub escapes-stood : {p : ℕ} {k : Place} → got ≡ standing (placed escapeAt w e) n d → got ≡ Next p → k ≡ standing (placed continuationAt w c) p d → k ≡ standing (escapePlaces w e c) n d
+  escapes-stood = stood (placed escapeAt w e) (placed continuationAt w c) n d
+
+  pub escapes-differed : {k : Refusal} → got ≡ standing (placed escapeAt w e) n d → got ≡ Refused k → Refused k ≡ standing (escapePlaces w e c) n d
+  escapes-differed = differed (placed escapeAt w e) (placed continuationAt w c) n d
+
+  module _ (x : ℕ) where
+    pub accepts-stood : {p : ℕ} {k : Place} → got ≡ standing (placed acceptAt w x) n d → got ≡ Next p → k ≡ standing (escapePlaces w e c) p d → k ≡ standing (laterPlaces w x e c) n d
+    unfolding laterPlaces
+    accepts-stood = stood (placed acceptAt w x) (escapePlaces w e c) n d
+
+    pub accepts-differed : {k : Refusal} → got ≡ standing (placed acceptAt w x) n d → got ≡ Refused k → Refused k ≡ standing (laterPlaces w x e c) n d
+    unfolding laterPlaces
+    accepts-differed = differed (placed acceptAt w x) (escapePlaces w e c) n d
+
+    module _ (v : ℕ) where
+      pub wide-stood : {p : ℕ} {k : Place} → got ≡ standing (placed wideAt w v) n d → got ≡ Next p → k ≡ standing (laterPlaces w x e c) p d → k ≡ standing (widePlaces w v x e c) n d
+      wide-stood = stood (placed wideAt w v) (laterPlaces w x e c) n d
+
+      pub wide-differed : {k : Refusal} → got ≡ standing (placed wideAt w v) n d → got ≡ Refused k → Refused k ≡ standing (widePlaces w v x e c) n d
+      wide-differed = differed (placed wideAt w v) (laterPlaces w x e c) n d
+
+      pub runs-stood : (r : ℕ) {p : ℕ} {k : Place} → got ≡ standing (placed runAt w r) n d → got ≡ Next p → k ≡ standing (widePlaces w v x e c) p d → k ≡ standing (places w r v x e c) n d
+      unfolding places
+      runs-stood r = stood (placed runAt w r) (widePlaces w v x e c) n d
+
+      pub runs-differed : (r : ℕ) {k : Refusal} → got ≡ standing (placed runAt w r) n d → got ≡ Refused k → Refused k ≡ standing (places w r v x e c) n d
+      unfolding places
+      runs-differed r = differed (placed runAt w r) (widePlaces w v x e c) n d
+
+-- what a chain of places is left with
+pub ruleset chaining = (needs, escapes-stood, escapes-differed, accepts-stood, accepts-differed, wide-stood, wide-differed, runs-stood, runs-differed, before-1, before-2, before-3, before-4)
+
+-- Flags
+
+-- no record is there
+pub lost : (test : ℕ → Bool) (f : ℕ → Place) (left here : ℕ) {r : Refusal} {got : Place} {all : Bool} → rest test f left here ≡ all → 0 < left → got ≡ f here → got ≡ Refused r → false ≡ all
+unfolding walk everyFrom
+lost test f zero here i h g e = absurd (not-suc-le-zero h)
+lost test f (suc n) here i h g e = let k = rw (← g, e) at i in sym (and-false (test here)) ∙ k
+
+pub flags-start : (read : List ℕ → ℕ → Place) (test : ℕ → Bool) (w : List ℕ) (at : ℕ) → rest test (read w) (getD w at 0) (at + 1) ≡ everyIn read test w at
+unfolding everyIn rules.every
+flags-start read test w at = refl
+
+-- what a loop over records with flags is left with
+pub ruleset flagging = (needs, flags-start, passed, failed, lost, judged-all, was, inner-fits, accept-flag, config-flag, config-other, continuation-configs, continuation-count)
+
+-- Zeros
+
+module _ (d : List ℕ) where
+  pub empty-passed : (i : ℕ) {all : Bool} → i < length d → getD d i 0 ≡ 0 → emptyFrom i d ≡ all → emptyFrom (i + 1) d ≡ all
+  unfolding emptyFrom every
+  empty-passed i h e k = rw add-one (rw (drop-cons d i 0 h, eq-eqb (getD d i 0) 0 e) at k)
+
+  pub empty-failed : (i : ℕ) {all : Bool} → i < length d → (getD d i 0 ≡ 0 → ⊥) → emptyFrom i d ≡ all → false ≡ all
+  unfolding emptyFrom every
+  empty-failed i h e k = rw (drop-cons d i 0 h, ne-eqb (getD d i 0) 0 e) at k
+
+  pub empty-done : (i : ℕ) {all : Bool} → length d ≤ i → emptyFrom i d ≡ all → true ≡ all
+  unfolding emptyFrom every
+  empty-done i h k = rw (drop-of-length-le d h) at k
+
+pub ruleset emptying = (needs, empty-passed, empty-failed, empty-done)

@@ -1,0 +1,229 @@
+-- The tests of a room say whether it is a table: whether its own words are accepted, and decoding them leaves the room. Assumes nothing.
+use Prim.Native.Nat.{ℕ, _+_, _-_, _<_, _≤_}
+use native.Mathlib.Omega.{arith}
+use mathlib.Core.Path.{_≡_, refl, sym, ap, subst, _∙_}
+use mathlib.Core.List.{List, [], _∷_, _++_}
+use mathlib.Core.Bool.{Bool, true, false, _&&_}
+use borrow.Author.Needs.{needs}
+use borrow.Author.Tests.{lt-ltb, le-ltb, eq-eqb, ne-eqb}
+use lib.Dec.{eqb}
+use lib.ListN.{length, getD, take, drop, length-take, length-drop}
+use Rattle.refusal.specs.declared.Refusal.{Refusal}
+use Rattle.refusal.specs.Said.{NOT-TABLE, LIMIT, ROOM, INDEX}
+use Rattle.refusal.specs.Lists.{pick}
+use Rattle.words.specs.declared.Place.{Place}
+use Rattle.words.specs.declared.Place.the-variants.{Next, Refused}
+use Rattle.layout.specs.declared.Sections.{Sections}
+use Rattle.layout.specs.declared.Sections.the-variants.{Found, Unfound}
+use Rattle.layout.specs.Layout.{unfound, layoutOf}
+use Rattle.layout.proofs.Found.{Laid, found}
+use Rattle.rules.specs.Rules.{broken}
+use Rattle.written.specs.Over.{zeros, padded}
+use Rattle.room.specs.Room.{four, header, made, places, body, numbers, laidOut, roomFor}
+use Rattle.room.proofs.Sizes.{ordered, made-length}
+use Rattle.room.proofs.Tables.{same-found}
+use Rattle.codec.specs.declared.Decoded.the-variants as decoded
+use Rattle.codec.specs.declared.Decoded.the-variants.{Table}
+use Rattle.codec.specs.Decode.{judged, decodedFrom, keptFrom}
+use Rattle.judge.specs.Standing.{standsAt, standing, emptyFrom, emptyBehind, fourStand, eightStand, flagsPlain, filled, sound}
+use Rattle.judge.specs.Judge.{wordsPart, Part, sameList, accepted, isTable, tableIn}
+use Rattle.judge.proofs.Stood.{both-true, moved, alike, stands-in, cons-stands, cons-stood, append-stands, append-stood, stood-next, stood-is, stands-part, whole-stood, whole-stands, same-equal, equal-same}
+use Rattle.judge.proofs.Plain.{plain-made, made-plain}
+
+-- The places of the sections
+
+none-stands : (n : ℕ) (d : List ℕ) → standing [] n d ≡ Next n
+unfolding standing
+none-stands n d = refl
+
+module _ (m s r a n : ℕ) (d : List ℕ) where
+  two : n + 1 + 1 ≡ n + 2
+  two = omega arith
+
+  three : n + 2 + 1 ≡ n + 3
+  three = omega arith
+
+  last : n + 3 + 1 ≡ n + 4
+  last = omega arith
+
+  four-stands : fourStand m s r a n d ≡ true → standing (four m s r a) n d ≡ Next (n + 4)
+  unfolding fourStand
+  four-stands h =
+      let k = both-true _ (standsAt (a + 9) (n + 3) d) h in
+      let j = both-true _ (standsAt (r + 9) (n + 2) d) (k .0) in
+      let i = both-true (standsAt (m + 9) n d) (standsAt (s + 9) (n + 1) d) (j .0) in
+      let t₃ = cons-stands (a + 9) [] (n + 3) d (k .1) (none-stands (n + 3 + 1) d ∙ ap Next last) in
+      let t₂ = cons-stands (r + 9) _ (n + 2) d (j .1) (moved _ d (n + 2 + 1) (n + 3) three t₃) in
+      let t₁ = cons-stands (s + 9) _ (n + 1) d (i .1) (moved _ d (n + 1 + 1) (n + 2) two t₂) in
+      cons-stands (m + 9) _ n d (i .0) t₁
+
+  four-stood : {p : ℕ} → standing (four m s r a) n d ≡ Next p → (p ≡ n + 4) × (fourStand m s r a n d ≡ true)
+  unfolding fourStand
+  four-stood {p} h =
+      let i₀ = cons-stood (m + 9) _ n d h in
+      let i₁ = cons-stood (s + 9) _ (n + 1) d (i₀ .1) in
+      let i₂ = cons-stood (r + 9) _ (n + 2) d (moved _ d (n + 2) (n + 1 + 1) (sym two) (i₁ .1)) in
+      let i₃ = cons-stood (a + 9) _ (n + 3) d (moved _ d (n + 3) (n + 2 + 1) (sym three) (i₂ .1)) in
+      (omega (arith, stood-next (four m s r a) n d p h), rw (i₀ .0, i₁ .0, i₂ .0) (i₃ .0))
+
+-- The room of found sections
+
+module _ (w d : List ℕ) (part : w ≡ wordsPart d) (limit : length w ≤ 8192) (room : 16384 ≤ length d) where
+  -- the first number is the word count
+  count-is : getD d 0 0 ≡ length w
+  unfolding wordsPart
+  count-is =
+      let l = ap length part ∙ length-take (getD d 0 0) (drop 9 d) in
+      omega (arith, l, length-drop 9 d)
+
+  part-is : take (length w) (drop 9 d) ≡ w
+  unfolding wordsPart
+  part-is = ap (λ (n : ℕ). take n (drop 9 d)) (sym count-is) ∙ sym part
+
+  module _ {m s r a v x e c : ℕ} (l : Laid w m s r a v x e c) where
+    abbrev all : List ℕ
+    all = numbers w m s r a v x e c
+
+    to : filled w m s r a v x e c d ≡ true → padded (length d) all ≡ d
+    unfolding filled eightStand numbers header body emptyBehind
+    to h =
+        let i = both-true (eightStand m s r a v x e c d) _ h in
+        let j = both-true (flagsPlain w x c) _ (i .1) in
+        let f = both-true (fourStand m s r a 1 d) (fourStand v x e c 5 d) (i .0) in
+        let head = cons-stands (length w) (four m s r a ++ four v x e c) 0 d (stands-in (length w) 0 d (omega arith) count-is)
+        (append-stands (four m s r a) (four v x e c) 1 d (four-stands m s r a 1 d (f .0)) (four-stands v x e c 5 d (f .1))) in
+        let same = plain-made l (j .0) in
+        let words : standing (made w x e c) 9 d ≡ Next (9 + length w) = rw same (stands-part w 9 d part-is) in
+        go (standing (places w r v x e c) (length w + 9) d) refl (j .1) (λ q k. append-stands (header w m s r a v x e c) _ 0 d head (append-stands (made w x e c) _ 9 d words k))
+      where
+        go : (o : Place) → standing (places w r v x e c) (length w + 9) d ≡ o → emptyBehind o d ≡ true
+            → ((q : ℕ) → standing (places w r v x e c) (9 + length w) d ≡ Next q → standing (header w m s r a v x e c ++ (made w x e c ++ places w r v x e c)) 0 d ≡ Next q)
+            → padded (length d) (header w m s r a v x e c ++ (made w x e c ++ places w r v x e c)) ≡ d
+        go (Next q) g z k = let n : 9 + length w ≡ length w + 9 = omega arith in whole-stood _ d (k q (moved _ d _ _ n g)) z
+        go (Refused o) g z k = let y : _≡_ {A = ℕ} 0 1 = cc in absurd (omega arith)
+
+    from : padded (length d) all ≡ d → filled w m s r a v x e c d ≡ true
+    unfolding filled eightStand numbers header body emptyBehind
+    from h =
+        let i = whole-stands all d h in
+        let k₀ = append-stood (length w ∷ (four m s r a ++ four v x e c)) _ 0 d (i .0) in
+        let k₁ = append-stood (four m s r a) (four v x e c) 1 d (cons-stood (length w) _ 0 d (k₀ .1) .1) in
+        let f = four-stood m s r a 1 d (k₁ .1) in
+        let g = four-stood v x e c 5 d (moved (four v x e c) d 5 (k₁ .0) (sym (f .0)) (k₁ .2)) in
+        let q₉ : k₀ .0 ≡ 9 = g .0 in
+        let k₂ = append-stood (made w x e c) (places w r v x e c) 9 d (moved _ d 9 (k₀ .0) (sym q₉) (k₀ .2)) in
+        let n = stood-next (made w x e c) 9 d _ (k₂ .1) in
+        let o : k₂ .0 ≡ length w + 9 = omega (arith, n, made-length l) in
+        let same : made w x e c ≡ w = sym (stood-is (made w x e c) 9 d _ (k₂ .1)) ∙ ap (λ (p : ℕ). take p (drop 9 d)) (made-length l) ∙ part-is in
+        let b = made-plain l same in
+        let t = moved (places w r v x e c) d (length w + 9) (k₂ .0) (sym o) (k₂ .2) in
+        rw (f .1, g .1, b, t) (i .1)
+
+    -- all tests hold exactly where the room is what is written
+    filled-is : filled w m s r a v x e c d ≡ sameList (padded (length d) all) d
+    filled-is =
+        alike (filled w m s r a v x e c d) (sameList (padded (length d) all) d)
+        (λ h. subst (λ o. sameList o d ≡ true) (sym (to h)) (equal-same d))
+        (λ h. from (same-equal (padded (length d) all) d h))
+
+  laid-is : laidOut w (length d) ≡ layoutOf w
+  unfolding laidOut
+  laid-is = rw (le-ltb (length d) 16384 room, le-ltb 8192 (length w) limit)
+
+-- What judging a room is left with
+
+abbrev notTable : Sections
+notTable = unfound NOT-TABLE 0
+
+module _ (w d : List ℕ) where
+  module _ {m s r a v x e c : ℕ} where
+    table-is : Part w d → layoutOf w ≡ Found m s r a v x e c → tableIn d ≡ pick (sound w m s r a v x e c d) (Found m s r a v x e c) notTable
+    unfolding tableIn isTable sound decodedFrom judged keptFrom roomFor
+    table-is p f =
+        let i = filled-is w d (p .is) (p .limit) (p .room) (found w f) in
+        rw (← (p .is), laid-is w d (p .is) (p .limit) (p .room), f, i) (go (eqb (broken w m s r a v x e c) 0))
+      where
+        go : (t : Bool) → pick (accepted (pick t (Table (getD w m 0) (getD w s 0) (length w)) (decoded.Refused (record { number = INDEX; place = broken w m s r a v x e c }))) && sameList (pick t (padded (length d) (numbers w m s r a v x e c)) (zeros (length d))) d) (Found m s r a v x e c) notTable
+            ≡ pick (t && sameList (padded (length d) (numbers w m s r a v x e c)) d) (Found m s r a v x e c) notTable
+        go true = refl
+        go false = refl
+
+    pub is-there : {got : Sections} {ok : Bool} → Part w d → got ≡ layoutOf w → got ≡ Found m s r a v x e c → ok ≡ sound w m s r a v x e c d → ok ≡ true → Found m s r a v x e c ≡ tableIn d
+    is-there p g f o y = sym (table-is p (sym g ∙ f) ∙ (rw (← o, y)))
+
+    pub is-other : {got : Sections} {ok : Bool} {n : Sections} → Part w d → got ≡ layoutOf w → got ≡ Found m s r a v x e c → ok ≡ sound w m s r a v x e c d → ok ≡ false → n ≡ notTable → n ≡ tableIn d
+    is-other p g f o y h = h ∙ sym (table-is p (sym g ∙ f) ∙ (rw (← o, y)))
+
+  pub is-unlaid : {got : Sections} {o : Refusal} {n : Sections} → Part w d → got ≡ layoutOf w → got ≡ Unfound o → n ≡ notTable → n ≡ tableIn d
+  unfolding tableIn isTable decodedFrom
+  is-unlaid p g f h = let i = laid-is w d (p .is) (p .limit) (p .room) ∙ sym g ∙ f in h ∙ (rw (← (p .is), i))
+
+module _ (d : List ℕ) {n : Sections} where
+  refused-is : {o : Refusal} → laidOut (wordsPart d) (length d) ≡ Unfound o → n ≡ notTable → n ≡ tableIn d
+  unfolding tableIn isTable decodedFrom
+  refused-is i h = h ∙ (rw i)
+
+  -- too short a room, or too many words
+  pub too-short : length d < 16384 → n ≡ notTable → n ≡ tableIn d
+  unfolding laidOut
+  too-short h = refused-is {o = record { number = ROOM; place = 0 }} (rw (lt-ltb (length d) 16384 h))
+
+  pub too-many : (k : ℕ) → k ≡ getD d 0 0 → 16384 ≤ length d → 8192 < k → n ≡ notTable → n ≡ tableIn d
+  unfolding laidOut wordsPart
+  too-many k e h l =
+      let i = length-take (getD d 0 0) (drop 9 d) in
+      let j : 8192 < length (take (getD d 0 0) (drop 9 d)) = omega (arith, i, length-drop 9 d) in
+      refused-is {o = record { number = LIMIT; place = 8192 }} (rw (le-ltb (length d) 16384 h, lt-ltb 8192 (length (take (getD d 0 0) (drop 9 d))) j))
+
+-- the words, as `&room[9..9 + count]` reads them
+module _ (d : List ℕ) (k : ℕ) where
+  pub words-few : k ≤ 8192 → length (take (9 + k - 9) (drop 9 d)) ≤ 8192
+  words-few h = omega (arith, length-take (9 + k - 9) (drop 9 d))
+
+  pub words-part : k ≡ getD d 0 0 → 16384 ≤ length d → k ≤ 8192 → Part (take (9 + k - 9) (drop 9 d)) d
+  unfolding wordsPart
+  words-part e h l = let i : 9 + k - 9 ≡ getD d 0 0 = omega arith in record { is = rw i; limit = words-few l; room = h }
+
+pub ruleset judging = (needs, same-found, is-there, is-other, is-unlaid)
+
+pub ruleset measuring = (needs, too-short, too-many, words-part, words-few)
+
+-- What comparing all numbers is left with
+
+module _ (w d : List ℕ) (m s r a v x e c : ℕ) where
+  pub filled-head : {ok : Bool} → ok ≡ eightStand m s r a v x e c d → ok ≡ false → false ≡ filled w m s r a v x e c d
+  unfolding filled
+  filled-head o y = rw (← o, y)
+
+  pub filled-flags : {ok t : Bool} → ok ≡ eightStand m s r a v x e c d → ok ≡ true → t ≡ flagsPlain w x c → t ≡ false → false ≡ filled w m s r a v x e c d
+  unfolding filled
+  filled-flags o y u z = rw (← o, y, ← u, z)
+
+  module _ {ok t : Bool} {got : Place} where
+    pub filled-places : {q : Refusal} → ok ≡ eightStand m s r a v x e c d → ok ≡ true → t ≡ flagsPlain w x c → t ≡ true → got ≡ standing (places w r v x e c) (length w + 9) d → got ≡ Refused q
+        → false ≡ filled w m s r a v x e c d
+    unfolding filled emptyBehind
+    filled-places o y u z g f = rw (← o, y, ← u, z, ← g, f)
+
+    pub filled-all : {q : ℕ} {n : Bool} → ok ≡ eightStand m s r a v x e c d → ok ≡ true → t ≡ flagsPlain w x c → t ≡ true → got ≡ standing (places w r v x e c) (length w + 9) d → got ≡ Next q
+        → n ≡ emptyFrom q d → n ≡ filled w m s r a v x e c d
+    unfolding filled emptyBehind
+    filled-all o y u z g f h = h ∙ (rw (← o, y, ← u, z, ← g, f))
+
+-- no rule is broken, or one is
+module _ (w d : List ℕ) (m s r a v x e c : ℕ) {k : ℕ} where
+  pub sound-filled : {n : Bool} → k ≡ broken w m s r a v x e c → k ≡ 0 → n ≡ filled w m s r a v x e c d → n ≡ sound w m s r a v x e c d
+  unfolding sound
+  sound-filled b z h = h ∙ (rw (← b, eq-eqb k 0 z))
+
+  pub sound-broken : k ≡ broken w m s r a v x e c → (k ≡ 0 → ⊥) → false ≡ sound w m s r a v x e c d
+  unfolding sound
+  sound-broken b z = rw (← b, ne-eqb k 0 z)
+
+pub accepts-in : (w : List ℕ) {m s r a v x e c : ℕ} → layoutOf w ≡ Found m s r a v x e c → x < length w
+accepts-in w h = let o = ordered (found w h) in omega (arith, o .escapes, o .continuations, o .all)
+
+pub continuations-in : (w : List ℕ) {m s r a v x e c : ℕ} → layoutOf w ≡ Found m s r a v x e c → c < length w
+continuations-in w h = let o = ordered (found w h) in omega (arith, o .all)
+
+pub ruleset filling = (needs, sound-filled, sound-broken, filled-head, filled-flags, filled-places, filled-all, accepts-in, continuations-in)

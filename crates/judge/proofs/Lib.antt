@@ -1,0 +1,4 @@
+pub mod Comparing
+pub mod Stood
+pub mod Plain
+pub mod Filled

@@ -1,0 +1,22 @@
+-- The tests are the definition's.
+use Rattle.judge.specs.Standing.{fourStand}
+use Rattle.judge.proofs.Comparing.{standing-one}
+use Rattle.judge.proofs.places.four_stand.Statement.{statement}
+use Rattle.judge.proofs.places.four_stand.Tie as tie
+
+returns : tie.Need-returns
+unfolding fourStand
+returns c = cc
+
+pub four-stand-spec : {M : Type 1} → statement M
+four-stand-spec =
+    tie.close
+    (tie.spec
+    (λ c κs. search standing-one)
+    (λ c. search standing-one)
+    (λ c κs. search standing-one)
+    (λ c. search standing-one)
+    (λ c κs. search standing-one)
+    (λ c. search standing-one)
+    (λ c κs. search standing-one)
+    returns)

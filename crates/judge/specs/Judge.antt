@@ -1,0 +1,44 @@
+-- Which rooms are tables: document 01, "Encoding and coverage give NOT-TABLE exactly when the room isn't what decoding leaves for some
+-- accepted words". Assumes nothing.
+use Prim.Native.Nat.{ℕ, _≤_}
+use mathlib.Core.Path.{_≡_}
+use mathlib.Core.List.{List, [], _∷_}
+use mathlib.Core.Bool.{Bool, true, false, _&&_}
+use lib.ListN.{length, getD, take, drop}
+use lib.Dec.{eqb}
+use Rattle.refusal.specs.Said.{NOT-TABLE}
+use Rattle.refusal.specs.Lists.{pick}
+use Rattle.layout.specs.declared.Sections.{Sections}
+use Rattle.layout.specs.Layout.{unfound, layoutOf}
+use Rattle.codec.specs.declared.Decoded.{Decoded}
+use Rattle.codec.specs.declared.Decoded.the-variants.{Table, Refused}
+use Rattle.codec.specs.Decode.{decodeOf, roomOf}
+
+-- the words of a room: as many as its first number says, behind its header of nine
+unfoldable pub wordsPart : List ℕ → List ℕ
+wordsPart d = take (getD d 0 0) (drop 9 d)
+
+-- w are the words of the room d, which is neither too short nor has too many words
+pub record Part (w d : List ℕ) : Type 0 where
+  pub is : w ≡ wordsPart d
+  pub limit : length w ≤ 8192
+  pub room : 16384 ≤ length d
+
+-- two lists are the same, number for number
+unfoldable pub sameList : List ℕ → List ℕ → Bool
+sameList [] [] = true
+sameList [] (y ∷ ys) = false
+sameList (x ∷ xs) [] = false
+sameList (x ∷ xs) (y ∷ ys) = eqb x y && sameList xs ys
+
+abbrev pub accepted : Decoded → Bool
+accepted (Table modes states words) = true
+accepted (Refused r) = false
+
+-- a room is a table where its own words are accepted, into as many numbers, and decoding them leaves the room itself
+unfoldable pub isTable : List ℕ → Bool
+isTable d = accepted (decodeOf (wordsPart d) (length d)) && sameList (roomOf (wordsPart d) (length d)) d
+
+-- the places of its sections in its words, or NOT-TABLE
+unfoldable pub tableIn : List ℕ → Sections
+tableIn d = pick (isTable d) (layoutOf (wordsPart d)) (unfound NOT-TABLE 0)

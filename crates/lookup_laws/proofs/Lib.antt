@@ -1,0 +1,9 @@
+pub mod Stands
+pub mod Renewed
+pub mod Held
+pub mod Looked
+pub mod ModesLooked
+pub mod RunLooked
+pub mod RecordsLooked
+pub mod Never
+pub mod Rooms

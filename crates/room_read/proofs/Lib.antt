@@ -1,0 +1,5 @@
+pub mod Records
+pub mod Searches
+pub mod Parts
+pub mod Rows
+pub mod There

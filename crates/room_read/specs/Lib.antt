@@ -1,0 +1,4 @@
+pub mod Room
+pub mod Search
+pub mod Part
+pub mod Rows

@@ -1,0 +1,48 @@
+-- What a lookup follows in a room, which may be of any length and hold any numbers (document 01, "Refusals by number", 8 and 9).
+-- Below, w is the room, and s and e are where a section starts and ends. Assumes nothing.
+use Prim.Native.Nat.{ℕ, _+_, _*_}
+use mathlib.Core.List.{List}
+use lib.ListN.{length, getD}
+use lib.Dec.{ltb, leb}
+use Rattle.refusal.specs.Said.{Said, no, STATE, NOT-TABLE}
+use Rattle.refusal.specs.Lists.{pick}
+use Rattle.room_read.specs.declared.Found.{Found}
+use Rattle.room_read.specs.declared.Found.the-variants.{At, Absent, Outside}
+
+-- the section lies in the room, or "a number followed leads outside the room"
+abbrev pub spanned : {A : Type 0} → List ℕ → ℕ → ℕ → A → A → A
+spanned w s e inside outside = pick (ltb s e) (pick (leb e (length w)) inside outside) outside
+
+-- record i of n, of `size` numbers each, behind the count at s: absent, or outside its section
+abbrev pub placed : ℕ → ℕ → ℕ → ℕ → ℕ → Found
+placed s e n size i = pick (ltb i n) (pick (ltb (i * size + s + size) e) (At (i * size + s + 1)) Outside) Absent
+
+unfoldable pub recordIn : List ℕ → ℕ → ℕ → ℕ → ℕ → Found
+recordIn w s e size i = spanned w s e (placed s e (getD w s 0) size i) Outside
+
+-- a place that lies in the section, behind its count
+abbrev pub within : ℕ → ℕ → ℕ → Found
+within s e p = pick (ltb s p) (pick (ltb p e) (At p) Outside) Outside
+
+-- record i of a section whose records vary in length: its place is number i of the list at `list`
+unfoldable pub listedIn : List ℕ → ℕ → ℕ → ℕ → ℕ → Found
+listedIn w s e list i =
+    spanned w s e (pick (ltb i (getD w s 0)) (pick (ltb (list + i) (length w)) (within s e (getD w (list + i) 0)) Outside) Absent) Outside
+
+-- section k starts where number k of the room says, and ends where the next number says
+abbrev pub recordAt : List ℕ → ℕ → ℕ → ℕ → Found
+recordAt w k size i = pick (ltb 8 (length w)) (recordIn w (getD w k 0) (getD w (k + 1) 0) size i) Outside
+
+-- "3. states: ascii row, wide row, EOF target, accept index"
+unfoldable pub stateAt : List ℕ → ℕ → Found
+stateAt w i = recordAt w 2 4 i
+
+-- go on at the place of a record
+unfoldable pub follow : {A : Type 0} → Found → (ℕ → A) → A → A → A
+follow (At p) f absent outside = f p
+follow Absent f absent outside = absent
+follow Outside f absent outside = outside
+
+-- go on at the place of a state: "no such state" is STATE; NOT-TABLE is "checked before STATE"
+abbrev pub ofState : List ℕ → ℕ → (ℕ → Said) → Said
+ofState w i f = follow (stateAt w i) f (no STATE 0) (no NOT-TABLE 0)

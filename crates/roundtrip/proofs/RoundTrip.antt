@@ -1,0 +1,172 @@
+-- Demand 2: encode after decode gives the words with nonzero flags made 1; decoding those gives the same room, number for number; and
+-- every room that encoding accepts comes from decoding. Assumes nothing.
+use Prim.Native.Nat.{ℕ, _+_, _-_, _≤_, _<_}
+use native.Mathlib.Omega.{arith}
+use mathlib.Core.Path.{_≡_, refl, sym, ap, subst, _∙_}
+use mathlib.Core.List.{List, [], _∷_, _++_, map, append-assoc}
+use mathlib.Core.Bool.{Bool, true, false}
+use lib.Dec.{eqb}
+use lib.ListN.{length, getD, take, length-map, length-append, length-replicate}
+use lib.Seq.{take-at}
+use borrow.Author.Tests.{le-ltb, eqb-true, eq-eqb}
+use Rattle.refusal.specs.Said.{INDEX}
+use Rattle.refusal.specs.Lists.{pick}
+use Rattle.layout.specs.declared.Sections.{Sections}
+use Rattle.layout.specs.declared.Sections.the-variants.{Found, Unfound}
+use Rattle.rules.specs.Rules.{broken}
+use Rattle.written.specs.Over.{zeros, padded}
+use Rattle.room.specs.Room.{laidOut, roomFor, numbers}
+use Rattle.layout.proofs.Found.{found}
+use Rattle.room.proofs.Sizes.{numbers-length}
+use Rattle.codec.specs.declared.Decoded.the-variants as decoded
+use Rattle.codec.specs.Decode.{judged, decodedFrom, decodeOf, keptFrom, roomOf}
+use Rattle.codec.proofs.Decoding.{kept}
+use Rattle.judge.specs.Judge.{wordsPart, sameList, accepted, isTable}
+use Rattle.judge.proofs.Stood.{both-true, same-equal, equal-same}
+use Rattle.encode.specs.declared.Encoded.the-variants.{Words}
+use Rattle.encode.specs.Encode.{encodeOf, outOf}
+use Rattle.table.specs.Table.{Table, Fields, All, wordsOf, runWords, wideWords, acceptWords, escapeWords, continuationWords}
+use Rattle.table.specs.Whole.{Fit}
+use Rattle.table.specs.Places.{runsPlace, widePlace, acceptsPlace, escapesPlace, continuationsPlace, sectionsOf, brokenOf}
+use Rattle.table.specs.Rules.{Rules, Good, NoneOr, Searchable, Numbered, RefersBelow}
+use Rattle.table.proofs.Codec.{at-head}
+use Rattle.table.proofs.Placed.{modes-stand, states-stand}
+use Rattle.table.proofs.Obeyed.{obeys-accepted, accepted-obeys}
+use Rattle.roundtrip.specs.Normal.{normalAccept, normalConfig, normalContinuation, normal}
+use Rattle.roundtrip.specs.Trip.{Trip, Left}
+use Rattle.roundtrip.proofs.Normal.{normal-fields, normal-size, offsets, numbersOf, numbers-are, same-numbers}
+
+-- The rules do not look at flags
+
+all-to : {A : Type 0} (P Q : A → Type 0) (g : A → A) → ((x : A) → P x → Q (g x)) → (xs : List A) → All P xs → All Q (map g xs)
+unfolding All
+all-to P Q g k [] v = tt
+all-to P Q g k (x ∷ xs) v = (k x (v .0), all-to P Q g k xs (v .1))
+
+normal-rules : (t : Table) → Rules t → Rules (normal t)
+unfolding normal
+normal-rules t r =
+    let a = sym (length-map (t .accepts) normalAccept) in
+    let c = sym (length-map (t .continuations) normalContinuation) in
+    record {
+      rule1 = r .rule1;
+      rule2 = subst (λ n. All (λ s. (s .ascii < length (t .ascii)) × (s .wide < length (t .wide)) × Good t (s .eof) × NoneOr n (s .accept)) (t .states)) a (r .rule2);
+      rule3 = r .rule3;
+      rule4 = r .rule4;
+      rule5 = r .rule5;
+      rule6 = r .rule6;
+      rule7 = r .rule7;
+      rule8 = subst (λ n. All (λ e. NoneOr n (e .eof) × Searchable (e .ranges) × All (λ r. r .goal < n) (e .ranges)) (t .escapes)) c (r .rule8);
+      rule9 = all-to (λ k. Numbered RefersBelow 1 (k .contexts) × All (λ g. g .context ≤ length (k .contexts)) (k .configs))
+          (λ k. Numbered RefersBelow 1 (k .contexts) × All (λ g. g .context ≤ length (k .contexts)) (k .configs)) normalContinuation
+          (λ x v. (v .0, all-to (λ g. g .context ≤ length (x .contexts)) (λ g. g .context ≤ length (x .contexts)) normalConfig (λ y h. h) (x .configs) (v .1))) (t .continuations) (r .rule9);
+    }
+
+-- A table that obeys the rules, decoded
+
+module _ (t : Table) (h : Fields t) (r : Rules t) (l : length (wordsOf t) ≤ 8192) (n : ℕ) (room : 16384 ≤ n) where
+  laid : laidOut (wordsOf t) n ≡ sectionsOf t
+  unfolding laidOut
+  laid = rw (le-ltb n 16384 room, le-ltb 8192 (length (wordsOf t)) l) (obeys-accepted t h l r .0)
+
+  table-decoded : decodeOf (wordsOf t) n ≡ decoded.Table (length (t .modes)) (length (t .states)) (length (wordsOf t))
+  unfolding decodedFrom judged sectionsOf
+  table-decoded =
+      let m = at-head (modes-stand t) in
+      let s = at-head (states-stand t) in
+      rw (laid, eq-eqb (brokenOf t) 0 (obeys-accepted t h l r .1), m, s)
+
+  table-room : roomOf (wordsOf t) n ≡ padded n (numbersOf t)
+  unfolding keptFrom roomFor sectionsOf
+  table-room = rw (laid, eq-eqb (brokenOf t) 0 (obeys-accepted t h l r .1)) (ap (padded n) (numbers-are t h))
+
+-- The room of a table's numbers
+
+words-part : (t : Table) (n : ℕ) → wordsPart (padded n (numbersOf t)) ≡ wordsOf (normal t)
+unfolding wordsPart padded numbersOf
+words-part t n =
+    let z = zeros (n - length (numbersOf t)) in
+    let places = offsets runWords (t .runs) (runsPlace t + 1) ++ (offsets wideWords (t .wide) (widePlace t + 1) ++ (offsets acceptWords (t .accepts) (acceptsPlace t + 1)
+    ++ (offsets escapeWords (t .escapes) (escapesPlace t + 1) ++ offsets continuationWords (t .continuations) (continuationsPlace t + 1)))) in
+    ap (take (length (wordsOf t))) (append-assoc (wordsOf (normal t)) places z) ∙ take-at (wordsOf (normal t)) (places ++ z) (length (wordsOf t)) (normal-size t)
+
+padded-length : (n : ℕ) (xs : List ℕ) → length xs ≤ n → length (padded n xs) ≡ n
+unfolding padded
+padded-length n xs h = omega (arith, length-append xs (zeros (n - length xs)), length-replicate {A = ℕ} (n - length xs) 0)
+
+-- There and back
+
+module _ (t : Table) (h : Fields t) (r : Rules t) (l : length (wordsOf t) ≤ 8192) (n : ℕ) (room : 16384 ≤ n) where
+  normal-limit : length (wordsOf (normal t)) ≤ 8192
+  normal-limit = omega (arith, normal-size t)
+
+  room-again : roomOf (wordsOf (normal t)) n ≡ roomOf (wordsOf t) n
+  room-again = table-room (normal t) (normal-fields t h) (normal-rules t r) normal-limit n room ∙ ap (padded n) (same-numbers t) ∙ sym (table-room t h r l n room)
+
+  decoded-again : decodeOf (wordsOf (normal t)) n ≡ decodeOf (wordsOf t) n
+  unfolding normal
+  decoded-again =
+      table-decoded (normal t) (normal-fields t h) (normal-rules t r) normal-limit n room ∙ ap (decoded.Table (length (t .modes)) (length (t .states))) (normal-size t) ∙ sym (table-decoded t h r l n room)
+
+  room-part : wordsPart (roomOf (wordsOf t) n) ≡ wordsOf (normal t)
+  room-part = ap wordsPart (table-room t h r l n room) ∙ words-part t n
+
+  room-size : length (roomOf (wordsOf t) n) ≡ n
+  unfolding sectionsOf
+  room-size =
+      let f = numbers-length (found (wordsOf t) (obeys-accepted t h l r .0)) in
+      let k = ap length (numbers-are t h) in
+      ap length (table-room t h r l n room) ∙ padded-length n (numbersOf t) (omega (arith, f, k))
+
+  room-held : isTable (roomOf (wordsOf t) n) ≡ true
+  unfolding isTable
+  room-held = rw (room-part, room-size, decoded-again, table-decoded t h r l n room, room-again) (equal-same (roomOf (wordsOf t) n))
+
+  room-encoded : (k : ℕ) → length (wordsOf t) ≤ k → encodeOf (roomOf (wordsOf t) n) k ≡ Words (length (wordsOf t))
+  unfolding encodeOf
+  room-encoded k i =
+      let j : length (wordsOf (normal t)) ≤ k = omega (arith, normal-size t) in
+      rw (room-held, room-part, le-ltb k (length (wordsOf (normal t))) j) (ap Words (normal-size t))
+
+  room-out : (k : ℕ) → length (wordsOf t) ≤ k → outOf (roomOf (wordsOf t) n) k ≡ padded k (wordsOf (normal t))
+  unfolding outOf
+  room-out k i =
+      let j : length (wordsOf (normal t)) ≤ k = omega (arith, normal-size t) in
+      rw (room-held, room-part, le-ltb k (length (wordsOf (normal t))) j)
+
+  table-trip : Trip (wordsOf t) n
+  table-trip = record { table = t; fields = h; rules = r; words = refl; held = room-held; part = room-part; encoded = room-encoded; out = room-out; again = decoded-again; room = room-again }
+
+-- what is accepted is the words of a table that obeys the rules, within the limits
+accepted-table : (w : List ℕ) (n : ℕ) → Fit w → accepted (decodeOf w n) ≡ true → (t : Table) × Fields t × Rules t × (w ≡ wordsOf t) × (length w ≤ 8192) × (16384 ≤ n)
+unfolding decodedFrom judged
+accepted-table w n f h = go (laidOut w n) refl h
+  where
+    go : (o : Sections) → laidOut w n ≡ o → accepted (decodedFrom w o) ≡ true → (t : Table) × Fields t × Rules t × (w ≡ wordsOf t) × (length w ≤ 8192) × (16384 ≤ n)
+    go (Unfound o) i e = let z : _≡_ {A = ℕ} 0 1 = cc in absurd (omega arith)
+    go (Found m s r a v x y c) i e = unbroken (eqb (broken w m s r a v x y c) 0) refl e
+      where
+        unbroken : (b : Bool) → eqb (broken w m s r a v x y c) 0 ≡ b → accepted (pick b (decoded.Table (getD w m 0) (getD w s 0) (length w)) (decoded.Refused (record { number = INDEX; place = broken w m s r a v x y c }))) ≡ true
+            → (t : Table) × Fields t × Rules t × (w ≡ wordsOf t) × (length w ≤ 8192) × (16384 ≤ n)
+        unbroken false u e = let z : _≡_ {A = ℕ} 0 1 = cc in absurd (omega arith)
+        unbroken true u e =
+            let k = kept w n i in
+            let t = accepted-obeys w m s r a v x y c f (k .limit) (k .laid) (eqb-true (broken w m s r a v x y c) 0 u) in
+            (t .0, t .1, t .2, t .3, k .limit, k .room)
+
+-- "Encode after decode gives the words with nonzero flags made 1; decoding those gives the same room"
+pub round-trip : (w : List ℕ) (n : ℕ) → Fit w → accepted (decodeOf w n) ≡ true → Trip w n
+round-trip w n f h =
+    let t = accepted-table w n f h in
+    subst (λ u. Trip u n) (sym (t .3)) (table-trip (t .0) (t .1) (t .2) (subst (λ u. length u ≤ 8192) (t .3) (t .4)) n (t .5))
+
+-- every room that encoding accepts is what decoding leaves for some accepted words: its own
+pub own-words : (d : List ℕ) → isTable d ≡ true → Left d
+unfolding isTable
+own-words d h =
+    let s = both-true (accepted (decodeOf (wordsPart d) (length d))) (sameList (roomOf (wordsPart d) (length d)) d) h in
+    (wordsPart d, s .0, sym (same-equal (roomOf (wordsPart d) (length d)) d (s .1)))
+
+-- and no room that decoding leaves for accepted words is refused
+pub left-held : (d : List ℕ) (w : List ℕ) → Fit w → accepted (decodeOf w (length d)) ≡ true → d ≡ roomOf w (length d) → isTable d ≡ true
+left-held d w f h e = subst (λ u. isTable u ≡ true) (sym e) (round-trip w (length d) f h .held)

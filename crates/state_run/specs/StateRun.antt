@@ -1,0 +1,61 @@
+-- The run of a state, and the scan by it (document 01, "Lookups"). w is the room, s a state, bs the bytes of an input. Assumes nothing.
+use Prim.Native.Nat.{ℕ, _+_}
+use mathlib.Core.List.{List, [], _∷_}
+use lib.Dec.{ltb}
+use lib.ListN.{length, getD, take}
+use Rattle.refusal.specs.Said.{Said, ok, no, STATE, NOT-TABLE}
+use Rattle.refusal.specs.Lists.{pick}
+use Rattle.ascii_range.specs.declared.AsciiRanges.{AsciiRanges}
+use Rattle.ascii_run.specs.declared.Answered.{Answered}
+use Rattle.ascii_run.specs.declared.Answered.the-variants.{Ran, Refused}
+use Rattle.ascii_run.specs.Shape.{Got, run, refused, shape}
+use Rattle.ascii_run.specs.Words.{readAt}
+use Rattle.ascii_run.specs.Scan.{bit, skipped, scanSaid}
+use Rattle.room_read.specs.declared.Found.{Found}
+use Rattle.room_read.specs.declared.Found.the-variants.{Outside}
+use Rattle.room_read.specs.Room.{listedIn, stateAt, follow}
+use Rattle.state_run.specs.declared.StateScan.{StateScan}
+use Rattle.state_run.specs.declared.StateScan.the-variants.{NoRun, Skipped, NoAnswer}
+
+-- the places of the runs stand behind the words
+unfoldable pub runPlace : List ℕ → ℕ → Found
+runPlace w i = pick (ltb 8 (length w)) (listedIn w (getD w 3 0) (getD w 4 0) (9 + getD w 0 0) i) Outside
+
+abbrev pub notTable : Got
+notTable = refused NOT-TABLE 0
+
+-- "a number read is one its field forbids": what reading refuses is no table
+abbrev pub judged : Got → Got
+judged (run r) = run r
+judged (refused n p) = notTable
+
+-- what an answer gives
+abbrev pub gotOf : Answered → AsciiRanges → Got
+gotOf (Ran k) rs = run (record { kind = k; ranges = rs })
+gotOf (Refused r) rs = refused (r .number) (r .place)
+
+-- a run is read from its section alone, which ends at e
+unfoldable pub runIn : List ℕ → ℕ → ℕ → Got
+runIn w e p = judged (readAt (take e w) p)
+
+-- a state's run has its number; where there is none, the room is no table
+unfoldable pub runOf : List ℕ → ℕ → Got
+runOf w i = follow (runPlace w i) (runIn w (getD w 4 0)) notTable notTable
+
+unfoldable pub asciiRun : List ℕ → ℕ → Got
+asciiRun w s = follow (stateAt w s) (λ p. runOf w s) (refused STATE 0) notTable
+
+-- "none answers "no run". Then, and on a refusal, the part handed back is empty."
+abbrev pub skippedBy : Got → List ℕ → ℕ
+skippedBy (run r) bs = skipped (shape r) bs
+skippedBy (refused n p) bs = 0
+
+-- no run; the length of the skipped run, and whether an exit was found; or a refusal
+abbrev pub said : StateScan → Said
+said NoRun = ok []
+said (Skipped n b) = ok (n ∷ bit b ∷ [])
+said (NoAnswer r) = no (r .number) (r .place)
+
+abbrev pub scannedBy : Got → List ℕ → Said
+scannedBy (run r) bs = scanSaid (shape r) bs
+scannedBy (refused n p) bs = no n p

@@ -1,0 +1,131 @@
+// The run of a state, and the scan by it. The room may be of any length and hold any numbers.
+ghost use mathlib.Core.Path.{_≡_};
+ghost use Prim.Native.Nat.{_+_, _≤_};
+ghost use lib.ListN.{length, take};
+ghost use Rattle.room_read.specs.Room.{listedIn};
+ghost use Rattle.ascii_run.specs.Scan as scan;
+ghost use Rattle.ascii_run.specs.Shape.{Gives, refused};
+ghost use Rattle.state_run.specs.StateRun.{runPlace, judged, gotOf, runIn, runOf, asciiRun, skippedBy, said, scannedBy};
+use ascii_range::AsciiRange;
+use ascii_range::AsciiRanges;
+use ascii_run::Answered;
+use ascii_run::Run;
+use ascii_run::RunAnswer;
+use ascii_run::Scanned;
+use refusal::NOT_TABLE;
+use refusal::Refusal;
+use refusal::STATE;
+use room_read::Found;
+
+// No run; how far it went, and whether an exit stopped it; or why there is no answer.
+pub enum StateScan {
+    NoRun,
+    Skipped { bytes: usize, found_exit: bool },
+    NoAnswer(Refusal),
+}
+
+fn refuse(number: u32) -> RunAnswer
+    ensures { λ r. ⌜ Gives r (refused number 0) ⌝ }
+{
+    RunAnswer {
+        answer: Answered::Refused(Refusal { number, place: 0 }),
+        ranges: AsciiRanges {
+            ranges: [AsciiRange { low: 0, high: 0 }; 4],
+            count: 0,
+        },
+    }
+}
+
+fn place_from(room: &[u32], words: u32, start: u32, end: u32, i: u32) -> Found
+    ensures { λ r. ⌜ r ≡ listedIn (now (room .entry)) start end (9 + words) i ⌝ }
+{
+    room_read::listed_in(room, start, end as usize, 9 + (words as usize), i)
+}
+
+fn find_run(room: &[u32], i: u32) -> Found
+    ensures { λ r. ⌜ r ≡ runPlace (now (room .entry)) i ⌝ }
+{
+    if 8 < room.len() {
+        return place_from(room, room[0], room[3], room[4], i);
+    }
+    Found::Outside
+}
+
+// What reading refuses is no table.
+fn judge(got: RunAnswer) -> RunAnswer
+    ensures { λ r. ⌜ Gives r (judged (gotOf (got .answer) (got .ranges))) ⌝ }
+{
+    let answer = got.answer;
+    match answer {
+        Answered::Ran(_) => got,
+        Answered::Refused(_) => refuse(NOT_TABLE),
+    }
+}
+
+// The run at a place, read from its section alone, which ends at `end`.
+fn read_run(room: &[u32], end: u32, at: usize) -> RunAnswer
+    requires { ⌜ end ≤ length (now room) ⌝ }
+    ensures { λ r. ⌜ Gives r (runIn (now (room .entry)) end at) ⌝ }
+{
+    let to = end as usize;
+    judge(ascii_run::read_serialized(&room[..to], at))
+}
+
+fn run_of(room: &[u32], i: u32) -> RunAnswer
+    ensures { λ r. ⌜ Gives r (runOf (now (room .entry)) i) ⌝ }
+{
+    match find_run(room, i) {
+        Found::At(p) => read_run(room, room[4], p),
+        Found::Absent => refuse(NOT_TABLE),
+        Found::Outside => refuse(NOT_TABLE),
+    }
+}
+
+// The run of a state.
+pub fn ascii_run(room: &[u32], state: u16) -> RunAnswer
+    ensures { λ r. ⌜ Gives r (asciiRun (now (room .entry)) state) ⌝ }
+{
+    match room_read::find_state(room, state) {
+        Found::At(_) => run_of(room, state as u32),
+        Found::Absent => refuse(STATE),
+        Found::Outside => refuse(NOT_TABLE),
+    }
+}
+
+// The bytes that a state's run skips: the front part of the input itself.
+pub fn scan_ascii_run<'a>(room: &[u32], state: u16, input: &'a [u8]) -> &'a [u8]
+    ensures { λ r. ⌜ (now r ≡ take (skippedBy (asciiRun (now (room .entry)) state) (now (input .entry))) (now (input .entry))) × (r .ptr ≡ input .entry .ptr) ⌝ }
+{
+    let got = ascii_run(room, state);
+    let answer = got.answer;
+    let ranges = got.ranges;
+    match answer {
+        Answered::Ran(kind) => ascii_run::scan(Run { kind, ranges }, input),
+        Answered::Refused(_) => &input[..0],
+    }
+}
+
+fn told(scanned: Scanned) -> StateScan
+    ensures { λ r. ⌜ said r ≡ scan.said scanned ⌝ }
+{
+    match scanned {
+        Scanned::NoRun => StateScan::NoRun,
+        Scanned::Skipped(s) => StateScan::Skipped {
+            bytes: s.bytes,
+            found_exit: s.found_exit,
+        },
+    }
+}
+
+// How many bytes a state's run skips, and whether an exit was found; or that there is no run.
+pub fn scan_ascii_run_length(room: &[u32], state: u16, input: &[u8]) -> StateScan
+    ensures { λ r. ⌜ said r ≡ scannedBy (asciiRun (now (room .entry)) state) (now (input .entry)) ⌝ }
+{
+    let got = ascii_run(room, state);
+    let answer = got.answer;
+    let ranges = got.ranges;
+    match answer {
+        Answered::Ran(kind) => told(ascii_run::scan_length(Run { kind, ranges }, input)),
+        Answered::Refused(r) => StateScan::NoAnswer(r),
+    }
+}

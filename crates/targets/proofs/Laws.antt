@@ -1,0 +1,59 @@
+-- The laws of the targets: where a row lies, and that `said` takes no two answers to one. Assumes nothing.
+use Prim.Native.Nat.{ℕ, _+_, _*_, _/_, _^_, _<_, _≤_}
+use native.Mathlib.Omega.{arith}
+use mathlib.Core.Path.{_≡_, refl, sym, ap, _∙_}
+use mathlib.Core.List.{List}
+use lib.Dec.{ltb, eqb}
+use lib.ListN.{length, getD}
+use mir.Syntax.{w64}
+use mir.Val.{Fits}
+use borrow.Author.Needs.{needs}
+use borrow.Author.Tests.{le-leb, lt-leb, lt-ltb, le-ltb, eq-eqb, ne-eqb, ltb-true}
+use Rattle.refusal.specs.Said.{Said, ok, no}
+use Rattle.refusal.specs.Lists.{pick}
+use Rattle.room_read.specs.declared.Found.{Found}
+use Rattle.room_read.specs.declared.Found.the-variants.{At}
+use Rattle.room_read.proofs.Records.{held, record-at-in-room, ofstate}
+use Rattle.room_read.proofs.Searches.{gives, gives-none, row-outside}
+use Rattle.targets.specs.declared.Target.{Target}
+use Rattle.targets.specs.declared.Target.the-variants.{To, NoState, NotTable}
+use Rattle.targets.specs.Targets.{said, asciiRowAt, wideRowAt}
+
+-- a symbol's word lies in its row, and the row in the room
+module _ (w : List ℕ) (row : ℕ) {p : ℕ} {got : Found} (g : got ≡ asciiRowAt w row) (e : got ≡ At p) where
+  whole : p + 64 ≤ length w
+  unfolding asciiRowAt
+  whole = record-at-in-room w 4 64 row (sym g ∙ e)
+
+  pub symbol-word : (x : ℕ) → x < 128 → p + x / 2 < length w
+  symbol-word x h = omega (arith, whole)
+
+  pub symbol-index : (x : ℕ) → x < 128 → length w * 4 < 2 ^ 63 → Fits w64 (p + x / 2)
+  symbol-index x h l = record { fits = omega (arith, whole) }
+
+-- a wide row is found only behind a header
+pub wide-header : (w : List ℕ) (row : ℕ) {p : ℕ} {got : Found} → got ≡ wideRowAt w row → got ≡ At p → 8 < length w
+unfolding wideRowAt
+wide-header w row g e = ltb-true 8 (length w) (held (ltb 8 (length w)) (sym g ∙ e) .0)
+
+pub wide-end : (w : List ℕ) (row : ℕ) {p : ℕ} {got : Found} → got ≡ wideRowAt w row → got ≡ At p → 6 < length w
+wide-end w row g e = omega (arith, wide-header w row g e)
+
+-- by the tests on the way
+pub ruleset cases = (needs, le-leb, lt-leb, lt-ltb, le-ltb, eq-eqb, ne-eqb)
+
+-- by what is found
+pub ruleset chain = (ofstate, lt-ltb, le-ltb, symbol-word, symbol-index, gives, gives-none, row-outside, wide-end)
+
+-- `said` takes no two answers to one: what it says gives the answer back
+abbrev back : Said → Target
+back (ok l) = To (getD l 0 0)
+back (no n p) = pick (eqb n 8) NoState NotTable
+
+back-said : (x : Target) → back (said x) ≡ x
+back-said (To t) = refl
+back-said NoState = refl
+back-said NotTable = refl
+
+pub said-one : (x y : Target) → said x ≡ said y → x ≡ y
+said-one x y e = sym (back-said x) ∙ ap back e ∙ back-said y
