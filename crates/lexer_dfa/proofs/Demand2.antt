@@ -19,13 +19,12 @@ use Rattle.ascii_run.specs.declared.AsciiRun.the-variants.{None}
 use Rattle.ascii_run.specs.declared.Answered.the-variants.{Ran}
 use Rattle.ascii_run.specs.declared.RunAnswer.{RunAnswer}
 use Rattle.ascii_run.specs.declared.Scanned.{Scanned}
-use Rattle.ascii_run.specs.declared.Scanned.the-variants.{Skipped}
 use Rattle.ascii_run.specs.Shape.{none}
 use Rattle.ascii_run.specs.Classify.{exitsFrom, classification}
 use Rattle.ascii_run.specs.Scan.{stops, skipped}
 use Rattle.ascii_run.proofs.Described.{exits-hold, exits-ascend, gives-any, gives-until, gives-ranges, gives-none, classification-stops, run-said, ran-row, ran-shape, ran-some}
 use Rattle.ascii_run.proofs.ScanSaid.{scanned-one}
-use Rattle.lexer_dfa.specs.Demands.{AsciiOnly, LoopsOn, Longest, ScansLongest, ClassifyAnswers, ScanAnswers, ScanLengthAnswers, Described}
+use Rattle.lexer_dfa.specs.Demands.{AsciiOnly, LoopsOn, Longest, ScansLongest, runTells, ClassifyAnswers, ScanAnswers, ScanLengthAnswers, Described}
 
 -- Classification.
 
@@ -78,7 +77,7 @@ pub scan-is-longest : (row : RefT (List ℕ)) (state : ℕ) (x : RunAnswer) → 
     (input : RefT (List ℕ)) → AsciiOnly (input .now) →
     (part : RefT (List ℕ)) → ScanAnswers (record { kind = kind; ranges = x .ranges }) input part →
     (says : Scanned) → ScanLengthAnswers (record { kind = kind; ranges = x .ranges }) input says →
-    ScansLongest (LoopsOn state (row .now)) input part says
+    ScansLongest runTells (LoopsOn state (row .now)) input part says
 scan-is-longest row state x c kind r n input a part p says l =
     let w = ran-row state (row .now) x kind (c .2) r .0 in
     let e = ran-shape state (row .now) x kind (c .2) r in
@@ -90,5 +89,5 @@ scan-is-longest row state x c kind r n input a part p says l =
       longest = run-is-longest state (row .now) w m (input .now) a;
       front = rw e at (p .2 .0);
       itself = p .2 .1;
-      told = scanned-one says (Skipped (record { bytes = b; «found_exit» = ltb b (length (input .now)) })) ((rw e at (l .2)) ∙ run-said s (input .now) m);
+      told = scanned-one says (runTells b (ltb b (length (input .now)))) ((rw e at (l .2)) ∙ run-said s (input .now) m);
     }

@@ -1,7 +1,7 @@
 -- The words in which the demands are stated (document 00, "The demands, as agreed"). Assumes nothing.
 use Prim.Native.Nat.{ℕ, suc, _≤_, _<_}
 use mathlib.Core.Path.{_≡_}
-use mathlib.Core.Bool.{true, _&&_}
+use mathlib.Core.Bool.{Bool, true, _&&_}
 use mathlib.Core.List.{List}
 use lib.Dec.{eqb, ltb}
 use lib.ListN.{length, getD, take}
@@ -15,9 +15,13 @@ use Rattle.ascii_run.specs.declared.RunAnswer.{RunAnswer}
 use Rattle.ascii_run.specs.declared.Scanned.{Scanned}
 use Rattle.ascii_run.specs.declared.Scanned.the-variants.{Skipped}
 use Rattle.ascii_run.specs.Shape.{Shape, none, any, until, ranges}
+use Rattle.state_run.specs.declared.StateScan.{StateScan}
+use Rattle.state_run.specs.declared.StateScan.the-variants as state
 use Rattle.ascii_run.proofs.classify.Reads as classify
 use Rattle.ascii_run.proofs.scan.Reads as scan
 use Rattle.ascii_run.proofs.scan_length.Reads as scan-length
+use Rattle.state_run.proofs.scan_ascii_run.Reads as scan-ascii-run
+use Rattle.state_run.proofs.scan_ascii_run_length.Reads as scan-ascii-run-length
 use Rattle.table.specs.Table.{Table, wordsOf, Fields}
 use Rattle.table.specs.Rules.{Rules}
 use Rattle.codec.specs.declared.Decoded.{Decoded}
@@ -57,13 +61,20 @@ pub record Longest (P : ℕ → Type 0) (bs : List ℕ) (n : ℕ) : Type 0 where
   pub holds : (i : ℕ) → i < n → P (getD bs i 0)
   pub stops : n < length bs → P (getD bs n 0) → ⊥
 
--- two scans of an input hand back that front part of the input itself, and say its length and whether bytes are left
-pub record ScansLongest (P : ℕ → Type 0) (input part : RefT (List ℕ)) (says : Scanned) : Type 0 where
+-- two scans of an input hand back that front part of the input itself, and say its length and whether bytes are left; `tells` is how such an answer looks
+pub record ScansLongest {X : Type 0} (tells : ℕ → Bool → X) (P : ℕ → Type 0) (input part : RefT (List ℕ)) (says : X) : Type 0 where
   pub bytes : ℕ
   pub longest : Longest P (input .now) bytes
   pub front : part .now ≡ take bytes (input .now)
   pub itself : part .ptr ≡ input .ptr
-  pub told : says ≡ Skipped (record { bytes = bytes; «found_exit» = ltb bytes (length (input .now)) })
+  pub told : says ≡ tells bytes (ltb bytes (length (input .now)))
+
+-- by the run of a row, and by the run of a state in a room
+abbrev pub runTells : ℕ → Bool → Scanned
+runTells n b = Skipped (record { bytes = n; «found_exit» = b })
+
+abbrev pub stateTells : ℕ → Bool → StateScan
+stateTells n b = state.Skipped n b
 
 -- x is what the call may answer by its own contract, at some lifetimes and with some arguments at exit
 abbrev pub ClassifyAnswers : (row : RefT (List ℕ)) (state : ℕ) → RunAnswer → Type 0
@@ -74,6 +85,12 @@ ScanAnswers run input x = (κs : Lfts 1) × (e : _) × scan.Learnt κs (run, (in
 
 abbrev pub ScanLengthAnswers : (run : Run) (input : RefT (List ℕ)) → Scanned → Type 0
 ScanLengthAnswers run input x = (κs : Lfts 1) × (e : _) × scan-length.Learnt κs (run, (input, tt)) x e
+
+abbrev pub StateScanAnswers : (room : RefT (List ℕ)) (state : ℕ) (input : RefT (List ℕ)) → RefT (List ℕ) → Type 0
+StateScanAnswers room state input x = (κs : Lfts 2) × (e : _) × scan-ascii-run.Learnt κs (room, (state, (input, tt))) x e
+
+abbrev pub StateScanLengthAnswers : (room : RefT (List ℕ)) (state : ℕ) (input : RefT (List ℕ)) → StateScan → Type 0
+StateScanLengthAnswers room state input x = (κs : Lfts 2) × (e : _) × scan-ascii-run-length.Learnt κs (room, (state, (input, tt))) x e
 
 -- Document 01: "symbols not looping on the state are exits. 0 exits give any; 1 to 3 give until, ascending; otherwise the maximal looping ranges if 1 to 4, else none."
 

@@ -193,6 +193,12 @@ module _ (t : Table) (h : Fields t) (r2 : Rule2 t) where
   row-long : (k : ℕ) → k < length (t .ascii) → length (getD (t .ascii) k []) ≡ 64
   row-long k l = all-nth (λ row. length row ≡ 64) [] (t .ascii) k l (h .ascii)
 
+  -- a state's row has 128 targets
+  pub state-row-long : (i : ℕ) → i < length (t .states) → length (rowOf t i) ≡ 128
+  state-row-long i l =
+      let k = getD (t .states) i absent .ascii in
+      omega (arith, targets-size (getD (t .ascii) k []), row-long k (row-there i l))
+
   row-read : (k : ℕ) → k < length (t .ascii) → words.rowOf (wordsOf t) (asciiPlace t) k ≡ targets (getD (t .ascii) k [])
   row-read k l =
       let b = on (length (t .ascii) ∷ []) (each asciiWords (t .ascii) ++ fromWide t) (ascii-stand t) in
@@ -206,9 +212,8 @@ module _ (t : Table) (h : Fields t) (r2 : Rule2 t) where
   unfolding runGood classifiedWords
   run-judges i r at post l m v a =
       let k = getD (t .states) i absent .ascii in
-      let n : length (rowOf t i) ≡ 128 = omega (arith, targets-size (getD (t .ascii) k []), row-long k (row-there i l)) in
       rw (row-number i l, row-read k (row-there i l))
-      (said-as (λ p. p .1) (λ p. (m, p)) (both-hold (le i 65535) (stands-judges r (classification i (rowOf t i)) (wordsOf t) at post v (classification-fits i (rowOf t i) n) a)))
+      (said-as (λ p. p .1) (λ p. (m, p)) (both-hold (le i 65535) (stands-judges r (classification i (rowOf t i)) (wordsOf t) at post v (classification-fits i (rowOf t i) (state-row-long i l)) a)))
 
   -- a state's number has 16 bits
   pub rule4-judged : Rule3 t → length (t .states) ≤ 65536 → Judges (words.rule4 (wordsOf t) (statesPlace t) (runsPlace t) (asciiPlace t)) (Rule4 t)
