@@ -65,11 +65,13 @@ state-scan-is-longest words room f enough x left d modes states count e lent is 
     let n = skipped c bs in
     let told : scan.said says ≡ scanSaid c bs = q .2 ∙ ap (λ w. scannedBy (asciiRun w s) bs) is ∙ looks .scan s bs ∙ ap (λ b. pick b (scanSaid c bs) (no STATE 0)) (lt-ltb _ _ l) in
     let skips : skippedBy (asciiRun (lent .now) s) bs ≡ n = ap (λ w. skippedBy (asciiRun w s) bs) is ∙ looks .scan-part s bs ∙ ap (λ b. pick b n 0) (lt-ltb _ _ l) in
-    let runs : c ≡ none → ⊥ = λ u. some (said-one says NoRun (told ∙ ap (λ r. scanSaid r bs) u ∙ none-said bs)) in
-    (a, record {
-      bytes = n;
-      longest = run-is-longest s (rowOf t s) (state-row-long t (a .fields) (a .rules .rule2) s l) runs bs ascii;
-      front = rw skips at (p .2 .0);
-      itself = p .2 .1;
-      told = said-one says (stateTells n (ltb n (length bs))) (told ∙ run-said c bs runs);
-    })
+    let runs : c ≡ none → ⊥ = λ u. some (said-one says NoRun (told ∙ ap (λ r. scanSaid r bs) u ∙ none-said bs)) in (
+      a,
+      record {
+        bytes = n;
+        longest = run-is-longest s (rowOf t s) (state-row-long t (a .fields) (a .rules .rule2) s l) runs bs ascii;
+        front = rw skips at (p .2 .0);
+        itself = p .2 .1;
+        told = said-one says (stateTells n (ltb n (length bs))) (told ∙ run-said c bs runs);
+      },
+    )
