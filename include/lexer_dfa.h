@@ -1,5 +1,6 @@
 /*
- * The proved lexer DFA table core for C: ASCII ranges and runs, the decoding of tables, and lookups.
+ * The proved lexer DFA table core for C: ASCII ranges and runs, the decoding and encoding
+ * of tables, and lookups.
  *
  * The functions stand in target/staticlib/liblexer_dfa_c.a, which `rt staticlib lexer_dfa_c`
  * writes (x86-64).
@@ -8,11 +9,11 @@
  * refusal; there is nothing to check first. A list is passed as pointer and length. The pointer
  * must be the address of that many numbers, or any address that is not null and is aligned where
  * the length is 0. Nothing is kept after the call. Nothing is written but what is passed without
- * `const`: a room, which may not overlap the other lists of the call, and which is written as far
- * as its length and no further.
+ * `const`: a room or an output, which may not overlap the other lists of the call, and which is
+ * written as far as its length and no further.
  *
  * An answer's `number` is 0 where the call was accepted. Else it is the refusal's number, `place`
- * tells where, every other field is 0, and so is every number of a room.
+ * tells where, every other field is 0, and so is every number of a room or an output that is lent.
  */
 #ifndef LEXER_DFA_H
 #define LEXER_DFA_H
@@ -33,9 +34,10 @@ enum {
     LEXER_DFA_LIMIT = 4, /* more than LEXER_DFA_MAX_WORDS words; place: 8192 */
     LEXER_DFA_LEFT = 5,  /* words remain behind the table; place: the first of them */
     LEXER_DFA_INDEX = 6, /* an index rule is broken; place: the first such rule, 1 to 9 */
-    LEXER_DFA_ROOM = 7,  /* a room is too short; place: 0 */
+    LEXER_DFA_ROOM = 7,  /* a room or an output is too short; place: 0 */
     LEXER_DFA_STATE = 8, /* no such state, or a symbol past 127 for ascii_target; place: 0 */
-    LEXER_DFA_NOT_TABLE = 9, /* what a lookup follows in a room is not there; place: 0 */
+    LEXER_DFA_NOT_TABLE = 9, /* what a lookup follows in a room is not there, or a room to encode is
+                                not one that decoding leaves; place: 0 */
     LEXER_DFA_ORDER = 10     /* the starts of compiled modes descend; place: the mode */
 };
 
@@ -131,6 +133,20 @@ typedef struct {
 DecodeAnswer lexer_dfa_decode(const uint32_t *words, size_t len, uint32_t *room,
                               size_t room_len);
 
+/* How many numbers were written; those behind them are 0. */
+typedef struct {
+    uint32_t number;
+    size_t place;
+    size_t length;
+} ListAnswer;
+
+/*
+ * Encodes the table in a room, which may be any: its words, every flag that was set made 1. Judged in
+ * this order: NOT_TABLE, where the room is not what decoding leaves for some accepted words; ROOM,
+ * where fewer numbers are lent than there are words.
+ */
+ListAnswer lexer_dfa_encode(const uint32_t *room, size_t len, uint32_t *out, size_t out_len);
+
 /*
  * Lookups take any room, of any length and with any numbers, and read nothing outside it. NOT_TABLE
  * is never met on a room that decoding has filled; it comes before STATE. A lookup's refusal is at
@@ -152,13 +168,6 @@ LookupAnswer lexer_dfa_state_count(const uint32_t *room, size_t len);
 
 /* The state in which a mode starts; NONE for a mode that is negative, absent or not compiled. */
 LookupAnswer lexer_dfa_mode_start(const uint32_t *room, size_t len, int32_t mode);
-
-/* How many numbers were written; those behind them are 0. */
-typedef struct {
-    uint32_t number;
-    size_t place;
-    size_t length;
-} ListAnswer;
 
 /* For each mode 1 where it is compiled, else 0. Judged in this order: NOT_TABLE, ROOM (fewer numbers
    than modes are lent). */

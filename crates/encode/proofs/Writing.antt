@@ -11,7 +11,7 @@ use borrow.Rule.Slice.PartMut.{midOf, putMid}
 use lib.ListN.{length, getD, take, drop, set, length-take, length-drop, drop-of-length-le, length-replicate}
 use lib.Seq.{drop-cons, drop-drop, take-all, take-add, take-length, length-take-le}
 use Rattle.refusal.specs.declared.Refusal.{Refusal}
-use Rattle.refusal.specs.Said.{NOT-TABLE, ROOM}
+use Rattle.refusal.specs.Said.{Said, ok, no, NOT-TABLE, ROOM}
 use Rattle.refusal.specs.Lists.{pick}
 use Rattle.layout.specs.declared.Sections.{Sections}
 use Rattle.layout.specs.declared.Sections.the-variants.{Found, Unfound}
@@ -25,8 +25,8 @@ use Rattle.codec.specs.Decode.{decodedFrom, roomOf}
 use Rattle.codec.proofs.Decoding.{kept}
 use Rattle.judge.specs.Judge.{wordsPart, sameList, accepted, isTable, tableIn}
 use Rattle.encode.specs.declared.Encoded.{Encoded}
-use Rattle.encode.specs.declared.Encoded.the-variants.{Words}
-use Rattle.encode.specs.Encode.{Spans, refused, encodeOf, outOf}
+use Rattle.encode.specs.declared.Encoded.the-variants.{Words, Refused}
+use Rattle.encode.specs.Encode.{Spans, said, refused, encodeOf, outOf}
 
 -- The loop that copies a section: what is left of it, laid from here, gives what all of it gives
 
@@ -239,3 +239,15 @@ module _ (d : List ℕ) (k n : ℕ) where
   as-long-out h e = h ∙ ap (outOf d) e
 
 pub ruleset judged = (needs, as-long, as-long-out, is-held, first-read, no-table, no-table-out, zeros-again)
+
+-- `said` takes no two answers to one: what it says gives the answer back
+abbrev back : Said → Encoded
+back (ok l) = Words (getD l 0 0)
+back (no n p) = refused n p
+
+back-said : (x : Encoded) → back (said x) ≡ x
+back-said (Words n) = refl
+back-said (Refused r) = refl
+
+pub said-one : (x y : Encoded) → said x ≡ said y → x ≡ y
+said-one x y e = sym (back-said x) ∙ ap back e ∙ back-said y

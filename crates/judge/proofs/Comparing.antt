@@ -6,7 +6,7 @@ use native.Mathlib.Numerals.{sub-one, add-one}
 use native.Mathlib.Omega.{arith}
 use mathlib.Core.Path.{_≡_, refl, sym, _∙_}
 use mathlib.Core.List.{List, [], _∷_, _++_}
-use mathlib.Core.Bool.{Bool, true, false, _&&_, and-false}
+use mathlib.Core.Bool.{Bool, true, false, _&&_, and-false, and-true, and-assoc}
 use mir.Syntax.{w64}
 use mir.Val.{Fits}
 use borrow.Author.Needs.{needs}
@@ -173,16 +173,12 @@ pub ruleset flagging = (needs, flags-start, passed, failed, lost, judged-all, wa
 -- Zeros
 
 module _ (d : List ℕ) where
-  pub empty-passed : (i : ℕ) {all : Bool} → i < length d → getD d i 0 ≡ 0 → emptyFrom i d ≡ all → emptyFrom (i + 1) d ≡ all
+  pub empty-passed : (i : ℕ) (e : Bool) {all : Bool} → i < length d → e && emptyFrom i d ≡ all → (e && eqb (getD d i 0) 0) && emptyFrom (i + 1) d ≡ all
   unfolding emptyFrom every
-  empty-passed i h e k = rw add-one (rw (drop-cons d i 0 h, eq-eqb (getD d i 0) 0 e) at k)
+  empty-passed i e h k = rw add-one (and-assoc e _ _ ∙ (rw (drop-cons d i 0 h) at k))
 
-  pub empty-failed : (i : ℕ) {all : Bool} → i < length d → (getD d i 0 ≡ 0 → ⊥) → emptyFrom i d ≡ all → false ≡ all
+  pub empty-done : (i : ℕ) (e : Bool) {all : Bool} → length d ≤ i → e && emptyFrom i d ≡ all → e ≡ all
   unfolding emptyFrom every
-  empty-failed i h e k = rw (drop-cons d i 0 h, ne-eqb (getD d i 0) 0 e) at k
+  empty-done i e h k = sym (and-true e) ∙ (rw (drop-of-length-le d h) at k)
 
-  pub empty-done : (i : ℕ) {all : Bool} → length d ≤ i → emptyFrom i d ≡ all → true ≡ all
-  unfolding emptyFrom every
-  empty-done i h k = rw (drop-of-length-le d h) at k
-
-pub ruleset emptying = (needs, empty-passed, empty-failed, empty-done)
+pub ruleset emptying = (needs, empty-passed, empty-done)

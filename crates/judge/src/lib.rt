@@ -28,19 +28,17 @@ fn not_table() -> Sections
     })
 }
 
-// Every number from `n` on is 0.
+// Every number from `n` on is 0. No way out of the loop depends on a number, so that many are tested at once.
 fn is_empty_from(room: &[u32], n: usize) -> bool
     ensures { λ r. ⌜ r ≡ emptyFrom n (now (room .entry)) ⌝ }
 {
+    let mut empty = true;
     let mut i = n;
     while i < room.len() {
-        if room[i] == 0 {
-            i += 1;
-        } else {
-            return false;
-        }
+        empty = empty & (room[i] == 0);
+        i += 1;
     }
-    true
+    empty
 }
 
 // The room, beside its words and their count, has the numbers that decoding writes for the words.

@@ -1,6 +1,7 @@
 pub mod Decoding
 pub mod Demand2
 pub mod Examples
+pub mod RoundTrip
 pub mod Unique
 pub mod UniqueLookups
 pub mod LookupExamples

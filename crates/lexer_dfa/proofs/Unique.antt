@@ -34,6 +34,8 @@ use Rattle.room.specs.Room.{roomFor}
 use Rattle.written.proofs.clear.Reads as clear
 use Rattle.room.proofs.fill.Reads as fill
 use Rattle.codec.proofs.decode.Reads as decode
+use Rattle.judge.proofs.table_in.Reads as table-in
+use Rattle.encode.proofs.encode.Reads as encode
 use Rattle.lexer_dfa.specs.Unique.{Determines, DeterminesPart, DeterminesBoth}
 
 -- ascii_range
@@ -140,3 +142,13 @@ fill-unique κs a x y e f p q = (p .0 ∙ sym (q .0), p .1 ∙ ap (roomFor _ _) 
 
 pub decode-unique : DeterminesBoth (λ κs e. e .1 .0) decode.Learnt
 decode-unique κs a x y e f p q = (p .0 ∙ sym (q .0), p .1 ∙ sym (q .1))
+
+-- judge
+
+pub table-in-unique : Determines table-in.Learnt
+table-in-unique κs a x y e f p q = p ∙ sym q
+
+-- encode
+
+pub encode-unique : DeterminesBoth (λ κs e. e .1 .0) encode.Learnt
+encode-unique κs a x y e f p q = (p .0 ∙ sym (q .0), p .1 ∙ sym (q .1))

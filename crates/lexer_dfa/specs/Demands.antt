@@ -2,12 +2,15 @@
 use Prim.Native.Nat.{ℕ, suc, _≤_, _<_}
 use mathlib.Core.Path.{_≡_}
 use mathlib.Core.Bool.{Bool, true, _&&_}
-use mathlib.Core.List.{List}
+use mathlib.Core.List.{List, [], _∷_}
+use mathlib.Core.Logic.{_⊎_}
 use lib.Dec.{eqb, ltb}
 use lib.ListN.{length, getD, take}
 use contract.Lifetimes.{Lfts}
 use denote.Ref.{RefT}
+use Rattle.refusal.specs.Said.{Said, ok, no, NOT-TABLE, ROOM}
 use Rattle.refusal.specs.Lists.{some}
+use Rattle.written.specs.Over.{padded}
 use Rattle.ascii_range.specs.declared.AsciiRange.{AsciiRange}
 use Rattle.ascii_range.specs.Ranges.{loopsAt, exitsAt, inRanges, ordered}
 use Rattle.ascii_run.specs.declared.Run.{Run}
@@ -24,8 +27,15 @@ use Rattle.state_run.proofs.scan_ascii_run.Reads as scan-ascii-run
 use Rattle.state_run.proofs.scan_ascii_run_length.Reads as scan-ascii-run-length
 use Rattle.table.specs.Table.{Table, wordsOf, Fields}
 use Rattle.table.specs.Rules.{Rules}
+use Rattle.table.specs.Whole.{Fit}
+use Rattle.table.specs.Fronts.{Exactly}
+use Rattle.roundtrip.specs.Normal.{normal}
 use Rattle.codec.specs.declared.Decoded.{Decoded}
+use Rattle.codec.specs.Decode as decoding
 use Rattle.codec.proofs.decode.Reads as decode
+use Rattle.encode.specs.declared.Encoded.{Encoded}
+use Rattle.encode.specs.Encode as encoding
+use Rattle.encode.proofs.encode.Reads as encode
 
 -- Demand 2: "Given its room, decoding accepts the lists of up to 8,192 words that meet the layout and the nine index rules, and no others."
 
@@ -44,6 +54,59 @@ pub record Accepted (w : List ℕ) (modes states words : ℕ) : Type 0 where
   pub of-modes : modes ≡ length (table .modes)
   pub of-states : states ≡ length (table .states)
   pub of-words : words ≡ length w
+
+-- Demand 2: "Encoding the result gives the same words with nonzero flags made 1; decoding that gives the same table."
+
+-- encode may answer x by its own contract, and leave these numbers in the output, which is its second argument at exit
+abbrev pub EncodeAnswers : (room out : RefT (List ℕ)) → Encoded → List ℕ → Type 0
+EncodeAnswers room out x left = (κs : Lfts 2) × (e : _) × encode.Learnt κs (room, (out, tt)) x e × (e .1 .0 .now ≡ left)
+
+-- v is the words w with nonzero flags made 1: w is the words of a table, and v those of the table with its flags so made
+pub record FlagsMade (w v : List ℕ) : Type 0 where
+  pub table : Table
+  pub fields : Fields table
+  pub before : w ≡ wordsOf table
+  pub after : v ≡ wordsOf (normal table)
+
+-- words w were decoded into a room of n numbers with the answer x, which left d there: so they go there and back
+pub record RoundTrip (w : List ℕ) (n : ℕ) (x : Decoded) (d : List ℕ) : Type 0 where
+  pub made : List ℕ
+  pub flags : FlagsMade w made
+  pub as-many : length made ≡ length w
+  -- encoding the room into an output that is long enough answers how many words there are, and leaves them with nonzero flags made 1, then zeros
+  pub encoded : (room out : RefT (List ℕ)) → room .now ≡ d → length w ≤ length (out .now) → (y : Encoded) (left : List ℕ) → EncodeAnswers room out y left →
+      (encoding.said y ≡ ok (length w ∷ [])) × (left ≡ padded (length (out .now)) made)
+  -- decoding those into a room of as many numbers gives the same answer, and leaves the same room, number for number
+  pub again : (words room : RefT (List ℕ)) → words .now ≡ made → length (room .now) ≡ n → (y : Decoded) (left : List ℕ) → DecodeAnswers words room y left →
+      (y ≡ x) × (left ≡ d)
+
+-- Document 01: "Encoding .. NOT-TABLE exactly when the room isn't what decoding leaves for some accepted words; encoding gives ROOM next, when the output is
+-- shorter than needed."
+
+-- d is what decoding leaves for the accepted words w: lent a room of as many numbers, decode may answer w with a table, by its own contract, and leave d
+pub record Leaves (w d : List ℕ) : Type 0 where
+  pub fit : Fit w
+  pub words : RefT (List ℕ)
+  pub are-words : words .now ≡ w
+  pub room : RefT (List ℕ)
+  pub as-long : length (room .now) ≡ length d
+  pub answer : Decoded
+  pub leaves : DecodeAnswers words room answer d
+  pub modes : ℕ
+  pub states : ℕ
+  pub count : ℕ
+  pub accepted : decoding.said answer ≡ ok (modes ∷ states ∷ count ∷ [])
+
+-- what encode says of a room d and an output of n numbers
+pub record EncodedBy (d : List ℕ) (n : ℕ) (says : Said) : Type 0 where
+  -- the room is left for no words
+  pub not-table : (p : ℕ) → Exactly (says ≡ no NOT-TABLE p) ((p ≡ 0) × ((w : List ℕ) → Leaves w d → ⊥))
+  -- it is left for some, and the output is shorter than they are
+  pub room : (p : ℕ) → Exactly (says ≡ no ROOM p) ((p ≡ 0) × (w : List ℕ) × Leaves w d × (n < length w))
+  -- it is left for some, and the output is long enough: so many are answered
+  pub accepts : (k : ℕ) → Exactly (says ≡ ok (k ∷ [])) ((w : List ℕ) × Leaves w d × (length w ≤ n) × (k ≡ length w))
+  -- no other number is given
+  pub no-other : (number p : ℕ) → says ≡ no number p → (number ≡ NOT-TABLE) ⊎ (number ≡ ROOM)
 
 -- Demand 2: "Over ASCII-only bytes, a state's run, where it has one, is the longest front part on which it loops."
 

@@ -1,7 +1,7 @@
 -- What the C face answers follows from what the calls say. Assumes nothing.
 use Prim.Native.Nat.{ℕ}
 use native.Mathlib.Omega.{arith}
-use mathlib.Core.Path.{_≡_, _∙_}
+use mathlib.Core.Path.{_≡_, _∙_, ap}
 use mathlib.Core.List.{List}
 use borrow.Author.Needs.{needs}
 use Rattle.refusal.specs.declared.Refusal.{Refusal}
@@ -25,9 +25,14 @@ use Rattle.ascii_run.specs.Scan.{bit, said, scanSaid}
 use Rattle.ascii_run.proofs.Answers.{given}
 use Rattle.codec.specs.declared.Decoded.{Decoded}
 use Rattle.codec.specs.declared.Decoded.the-variants as decoded
+use Rattle.encode.specs.declared.Encoded.{Encoded}
+use Rattle.encode.specs.declared.Encoded.the-variants as encoded
+use Rattle.encode.specs.Encode as encoding
+use Rattle.lexer_dfa_c.specs.declared.CListed.{CListed}
 use Rattle.lexer_dfa_c.specs.declared.CRun.{CRun}
 use Rattle.lexer_dfa_c.specs.declared.CScan.{CScan}
 use Rattle.lexer_dfa_c.specs.Answers.{classInC, wordsC, refusedRun, answeredInC, runInC, scanInC, refusedScan, scanGot, decodedInC}
+use Rattle.lexer_dfa_c.specs.Lookups.{listedInC}
 
 -- a class's number, or its refusal
 module _ {a : RangeClass} (s : Said) where
@@ -86,4 +91,15 @@ module _ (x : Decoded) {a : Decoded} where
   pub decoded-refused : {r : Refusal} → a ≡ x → a ≡ decoded.Refused r → record { number = r .number; place = r .place; modes = 0; states = 0; words = 0 } ≡ decodedInC x
   decoded-refused h e = rw (← h, e)
 
-pub ruleset calling = (needs, decoded-table, decoded-refused, class-number, class-refused, words-ran, words-refused, run-in-c, scan-none, scan-skipped, scan-run, scan-refused)
+-- how many words were written, or a refusal
+module _ {a : Encoded} where
+  pub encoded-words : {n : ℕ} → a ≡ encoded.Words n → record { number = 0; place = 0; length = n } ≡ listedInC (encoding.said a)
+  encoded-words e = rw e
+
+  pub encoded-refused : {r : Refusal} → a ≡ encoded.Refused r → record { number = r .number; place = r .place; length = 0 } ≡ listedInC (encoding.said a)
+  encoded-refused e = rw e
+
+  pub encoded-says : (x : Encoded) {r : CListed} → a ≡ x → r ≡ listedInC (encoding.said a) → r ≡ listedInC (encoding.said x)
+  encoded-says x h e = e ∙ ap (λ y. listedInC (encoding.said y)) h
+
+pub ruleset calling = (needs, decoded-table, decoded-refused, encoded-words, encoded-refused, encoded-says, class-number, class-refused, words-ran, words-refused, run-in-c, scan-none, scan-skipped, scan-run, scan-refused)

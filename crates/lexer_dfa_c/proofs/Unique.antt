@@ -6,6 +6,7 @@ use Rattle.lexer_dfa_c.proofs.lexer_dfa_classify.Reads as classify
 use Rattle.lexer_dfa_c.proofs.lexer_dfa_read_run.Reads as read-run
 use Rattle.lexer_dfa_c.proofs.lexer_dfa_scan.Reads as scan
 use Rattle.lexer_dfa_c.proofs.lexer_dfa_decode.Reads as decode
+use Rattle.lexer_dfa_c.proofs.lexer_dfa_encode.Reads as encode
 use Rattle.lexer_dfa.specs.Unique.{Determines, DeterminesBoth}
 
 pub c-class-of-byte-unique : Determines class-of-byte.Learnt
@@ -25,3 +26,6 @@ c-scan-unique κs a x y e f p q = p ∙ sym q
 
 pub c-decode-unique : DeterminesBoth (λ κs e. e .1 .0) decode.Learnt
 c-decode-unique κs a x y e f p q = (p .0 ∙ sym (q .0), p .1 ∙ sym (q .1))
+
+pub c-encode-unique : DeterminesBoth (λ κs e. e .1 .0) encode.Learnt
+c-encode-unique κs a x y e f p q = (p .0 ∙ sym (q .0), p .1 ∙ sym (q .1))

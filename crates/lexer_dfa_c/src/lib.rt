@@ -8,6 +8,7 @@ ghost use Rattle.ascii_run.specs.Classify.{classified};
 ghost use Rattle.ascii_run.specs.Words.{readAt};
 ghost use lib.ListN.{length};
 ghost use Rattle.codec.specs.Decode.{decodeOf, roomOf};
+ghost use Rattle.encode.specs.Encode as encoding;
 ghost use Rattle.modes.specs.Start as starting;
 ghost use Rattle.modes.specs.Modes as moding;
 ghost use Rattle.mode_counts.specs.Counts as counting;
@@ -29,6 +30,7 @@ use lexer_dfa::Compiled;
 use lexer_dfa::Continuation;
 use lexer_dfa::ContinuationRecord;
 use lexer_dfa::Decoded;
+use lexer_dfa::Encoded;
 use lexer_dfa::Listed;
 use lexer_dfa::RangeClass;
 use lexer_dfa::Run;
@@ -298,6 +300,31 @@ pub extern "C" fn lexer_dfa_decode(words: &[u32], room: &mut [u32]) -> CDecoded
             words: 0,
         },
     }
+}
+
+fn encoded_in_c(encoded: Encoded) -> CListed
+    ensures { λ r. ⌜ r ≡ listedInC (encoding.said encoded) ⌝ }
+{
+    match encoded {
+        Encoded::Words(words) => CListed {
+            number: 0,
+            place: 0,
+            length: words,
+        },
+        Encoded::Refused(refused) => CListed {
+            number: refused.number,
+            place: refused.place,
+            length: 0,
+        },
+    }
+}
+
+// Encodes the table in a room into the output, which is all zeros where there is no table, and where it is too short.
+#[no_mangle]
+pub extern "C" fn lexer_dfa_encode(room: &[u32], out: &mut [u32]) -> CListed
+    ensures { λ r. ⌜ (r ≡ listedInC (encoding.said (encoding.encodeOf (now (room .entry)) (length (now (out .entry)))))) × (now (out .exit) ≡ encoding.outOf (now (room .entry)) (length (now (out .entry)))) ⌝ }
+{
+    encoded_in_c(lexer_dfa::encode(room, out))
 }
 
 fn compiled_in_c(compiled: Compiled) -> CValue

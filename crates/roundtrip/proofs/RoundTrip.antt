@@ -161,12 +161,12 @@ round-trip w n f h =
     subst (λ u. Trip u n) (sym (t .3)) (table-trip (t .0) (t .1) (t .2) (subst (λ u. length u ≤ 8192) (t .3) (t .4)) n (t .5))
 
 -- every room that encoding accepts is what decoding leaves for some accepted words: its own
-pub own-words : (d : List ℕ) → isTable d ≡ true → Left d
+pub own-words : (d : List ℕ) → isTable d ≡ true → Left (wordsPart d) d
 unfolding isTable
 own-words d h =
     let s = both-true (accepted (decodeOf (wordsPart d) (length d))) (sameList (roomOf (wordsPart d) (length d)) d) h in
-    (wordsPart d, s .0, sym (same-equal (roomOf (wordsPart d) (length d)) d (s .1)))
+    (s .0, sym (same-equal (roomOf (wordsPart d) (length d)) d (s .1)))
 
 -- and no room that decoding leaves for accepted words is refused
-pub left-held : (d : List ℕ) (w : List ℕ) → Fit w → accepted (decodeOf w (length d)) ≡ true → d ≡ roomOf w (length d) → isTable d ≡ true
-left-held d w f h e = subst (λ u. isTable u ≡ true) (sym e) (round-trip w (length d) f h .held)
+pub left-held : (w d : List ℕ) → Fit w → Left w d → isTable d ≡ true
+left-held w d f (h, e) = subst (λ u. isTable u ≡ true) (sym e) (round-trip w (length d) f h .held)

@@ -1,4 +1,4 @@
--- A table with its flags made 0 or 1: document 01, "A flag is any word; nonzero means set".
+-- A table with its flags made 0 or 1: document 01, "A flag is any word; nonzero means set". Assumes nothing.
 use mathlib.Core.List.{map}
 use Rattle.room.specs.Room.{flag}
 use Rattle.table.specs.Table.{Table, Accept, Config, Continuation}

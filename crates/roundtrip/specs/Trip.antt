@@ -1,4 +1,4 @@
--- Demand 2's round trip, as it is stated: for words that decoding accepts into a room of n numbers.
+-- Demand 2's round trip, as it is stated: for words that decoding accepts into a room of n numbers. Assumes nothing.
 use Prim.Native.Nat.{ℕ, _≤_}
 use mathlib.Core.Path.{_≡_}
 use mathlib.Core.Bool.{true}
@@ -29,6 +29,6 @@ pub record Trip (w : List ℕ) (n : ℕ) : Type 0 where
   pub again : decodeOf (wordsOf (normal table)) n ≡ decodeOf w n
   pub room : roomOf (wordsOf (normal table)) n ≡ roomOf w n
 
--- a room is what decoding leaves for some accepted words
-abbrev pub Left : List ℕ → Type 0
-Left d = (w : List ℕ) × (accepted (decodeOf w (length d)) ≡ true) × (d ≡ roomOf w (length d))
+-- a room d is what decoding leaves for accepted words w
+abbrev pub Left : (w d : List ℕ) → Type 0
+Left w d = (accepted (decodeOf w (length d)) ≡ true) × (d ≡ roomOf w (length d))

@@ -2,6 +2,7 @@
 //! from the original, which has no numbers and places of refusals. The library is held to these.
 
 mod decode;
+mod encode;
 pub mod lookup;
 mod read;
 mod rules;
@@ -9,6 +10,7 @@ mod run;
 pub mod table;
 
 pub use decode::{decode, room};
+pub use encode::encode;
 pub use run::{classification, one_run, read_run, row, three_words};
 
 use lexer_dfa::Refusal;

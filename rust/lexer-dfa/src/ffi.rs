@@ -181,7 +181,7 @@ lookups! {
     lexer_dfa_continuation_configs as continuation_configs(continuation: u32) -> Span;
 }
 
-/// The lookups that write a list into a buffer.
+/// The calls that take a room and write a list into a buffer.
 macro_rules! lists {
     ($($call:ident as $name:ident;)*) => {
         unsafe extern "C" {
@@ -199,6 +199,7 @@ macro_rules! lists {
 lists! {
     lexer_dfa_compiled_mode_flags as compiled_mode_flags;
     lexer_dfa_mode_state_counts as mode_state_counts;
+    lexer_dfa_encode as encode;
 }
 
 #[cfg(test)]
@@ -253,7 +254,22 @@ mod tests {
         assert_eq!((answer.modes, answer.states, answer.words), (1, 0, 10));
     }
 
-    /// A refused lookup has its number alone, and a buffer that it is lent is all zeros.
+    /// A table's words come back, and an output that is too short for them is all zeros.
+    #[test]
+    fn a_decoded_table_is_encoded() {
+        let words = [0x4C44_0001, 1, u32::MAX, 0, 0, 0, 0, 0, 0, 0];
+        let mut room = vec![7; 16_384];
+        assert_eq!(decode(&words, &mut room).number, 0);
+        let mut out = [7; 11];
+        let answer = encode(&room, &mut out);
+        assert_eq!((answer.number, answer.place, answer.length), (0, 0, 10));
+        assert_eq!((&out[..10], out[10]), (&words[..], 0));
+        let answer = encode(&room, &mut out[..9]);
+        assert_eq!((answer.number, answer.place, answer.length), (7, 0, 0));
+        assert_eq!(out[..9], [0; 9]);
+    }
+
+    /// A refused lookup or encoding has its number alone, and a buffer that it is lent is all zeros.
     #[test]
     fn a_refused_lookup_is_empty() {
         for room in [&[][..], &[7; 8], &[9; 40]] {
@@ -284,7 +300,7 @@ mod tests {
             let spans = [accept_actions, continuation_contexts, continuation_configs];
             let spans = spans.map(|span| span(room, 0));
             assert!(spans.iter().all(|span| (span.from, span.length) == (0, 0)));
-            for list in [compiled_mode_flags, mode_state_counts] {
+            for list in [compiled_mode_flags, mode_state_counts, encode] {
                 let mut out = [7; 3];
                 let answer = list(room, &mut out);
                 assert_eq!((answer.number, answer.place, answer.length), (9, 0, 0));

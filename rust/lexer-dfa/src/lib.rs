@@ -29,4 +29,6 @@ pub use class::{AsciiRangeClass, ByteClass, class, class_of_byte};
 pub use lookup::{AcceptRecord, ContinuationRecord};
 pub use refusal::Refusal;
 pub use run::{AsciiRun, AsciiRunScan, scan};
-pub use table::{DEAD_STATE, Decoded, ESCAPE_STATE, MAX_WORDS, ROOM_NUMBERS, Table, decode_into};
+pub use table::{
+    DEAD_STATE, Decoded, ESCAPE_STATE, MAX_WORDS, ROOM_NUMBERS, Table, decode_into, encode_into,
+};

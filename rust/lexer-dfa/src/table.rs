@@ -1,4 +1,4 @@
-//! Tables: a lexer's words, decoded into a room.
+//! Tables: a lexer's words, decoded into a room, and encoded again.
 
 use crate::{AcceptRecord, AsciiRun, AsciiRunScan, ContinuationRecord, Refusal, ffi, lookup};
 use std::fmt;
@@ -102,6 +102,21 @@ impl Table {
     /// The room, [`ROOM_NUMBERS`] long.
     pub fn room(&self) -> &[u32] {
         &self.room
+    }
+
+    /// Writes the words, every flag that was set made 1, and 0 behind them; and answers how many
+    /// there are. ROOM at 0 where fewer numbers are lent than there are words, and nothing else is
+    /// refused; then all numbers lent are 0.
+    pub fn encode_into(&self, out: &mut [u32]) -> Result<usize, Refusal> {
+        encode_into(&self.room, out)
+    }
+
+    /// The same words, in a list of their own.
+    pub fn encode(&self) -> Vec<u32> {
+        let mut out = vec![0; self.decoded.words];
+        // A decoded table is never refused, and there is a number for each word.
+        let _ = self.encode_into(&mut out);
+        out
     }
 
     /// Whether at least one mode is compiled.
@@ -242,4 +257,37 @@ pub fn decode_into(words: &[u32], room: &mut [u32]) -> Result<Decoded, Refusal> 
     Refusal::unless_accepted(answer.number, answer.place)?;
     let (modes, states) = (answer.modes as usize, answer.states as usize);
     Ok(Decoded { modes, states, words: answer.words })
+}
+
+/// Encodes the table in a room: writes its words, flags 0 or 1, and 0 behind them; and answers how
+/// many there are. The room may be any.
+///
+/// | refused with | where | place |
+/// |---|---|---|
+/// | NOT-TABLE | the room is not what decoding leaves for some accepted words | 0 |
+/// | ROOM | fewer numbers are lent than there are words | 0 |
+///
+/// Then all numbers lent are 0.
+///
+/// ```
+/// use lexer_dfa::{ROOM_NUMBERS, decode_into, encode_into};
+///
+/// // An accept's flag is any word; set, it comes back as 1.
+/// let words = [0x4C44_0001, 0, 0, 0, 0, 0, 1, 5, 7, 0, 0, 0];
+/// let mut room = [0; ROOM_NUMBERS];
+/// decode_into(&words, &mut room)?;
+/// let mut out = [9; 13];
+/// assert_eq!(encode_into(&room, &mut out)?, 12);
+/// assert_eq!(out, [0x4C44_0001, 0, 0, 0, 0, 0, 1, 5, 1, 0, 0, 0, 0]);
+///
+/// assert_eq!(encode_into(&room, &mut out[..11]).unwrap_err().name(), "ROOM");
+/// room[ROOM_NUMBERS - 1] = 1;
+/// assert_eq!(encode_into(&room, &mut out).unwrap_err().name(), "NOT-TABLE");
+/// assert_eq!(out, [0; 13]);
+/// # Ok::<(), lexer_dfa::Refusal>(())
+/// ```
+pub fn encode_into(room: &[u32], out: &mut [u32]) -> Result<usize, Refusal> {
+    let answer = ffi::encode(room, out);
+    Refusal::unless_accepted(answer.number, answer.place)?;
+    Ok(answer.length)
 }

@@ -3,6 +3,7 @@
 pub mod class;
 pub mod classify;
 pub mod decode;
+pub mod encode;
 pub mod examples;
 pub mod lookup;
 pub mod read_run;

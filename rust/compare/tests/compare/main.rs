@@ -7,6 +7,7 @@
 
 mod byte;
 mod decode;
+mod encode;
 mod examples;
 mod lists;
 #[cfg(not(no_oracle))]
@@ -72,6 +73,11 @@ fn checks() -> Vec<(&'static str, Result<Check, String>)> {
         ("decode: rooms and lengths, by the plain reading", Ok(decode::rooms_and_lengths)),
         ("decode: past the limit, by the original", live!(decode::past_the_limit)),
         ("decode: a table's own room, by the plain reading", Ok(decode::owned)),
+        ("encode: seeded tables, by the original", live!(encode::seeded)),
+        ("encode: crowded sections, by the original", live!(encode::crowded)),
+        ("encode: strange rooms, by the plain reading", Ok(encode::strange)),
+        ("encode: every output, by the plain reading", Ok(encode::outputs)),
+        ("encode: a table's own words, by the plain reading", Ok(encode::owned)),
         ("lookup: seeded tables, by the original", live!(lookup::seeded)),
         ("lookup: samples and crowded tables, by the original", live!(lookup::samples)),
         ("lookup: strange rooms, by the plain reading", Ok(lookup::strange)),

@@ -51,6 +51,65 @@ pub fn each_strange(mut visit: impl FnMut(&mut Seeded, &[u32])) -> usize {
     cases
 }
 
+/// Rooms that decoding leaves and others that come near to them, at their full length: one number
+/// changed, or two, among those that are used or behind them; cut; lengthened by zeros, which leaves
+/// a table one, or by another number; one table's numbers up to a place and another's from there on;
+/// random numbers.
+pub fn each_nearly_left(mut visit: impl FnMut(&mut Seeded, &[u32])) -> usize {
+    const TABLES: usize = 8_000;
+    let mut from = Seeded::new(22);
+    let mut cases = 0;
+    let mut visit = |from: &mut Seeded, room: &[u32]| {
+        visit(from, room);
+        cases += 1;
+    };
+    let mut other = Vec::new();
+    for _ in 0..TABLES {
+        let table = match from.below(40) {
+            0 => tables::middle(&mut from),
+            _ => tables::small(&mut from),
+        };
+        let words = tables::words(&table);
+        let good = used(&words);
+        let places = telling_places(&words, &good);
+        let mut room = good.clone();
+        room.resize(ROOM_NUMBERS, 0);
+        visit(&mut from, &room);
+        for _ in 0..20 {
+            for _ in 0..from.pick(&[1, 1, 1, 1, 2]) {
+                change(&mut from, &mut room[..good.len()], &places);
+            }
+            visit(&mut from, &room);
+            room[..good.len()].copy_from_slice(&good);
+        }
+        for _ in 0..2 {
+            let any = good.len() + from.below(ROOM_NUMBERS - good.len());
+            let behind = from.pick(&[good.len(), any, ROOM_NUMBERS - 1]);
+            room[behind] = from.pick(&damage::TELLING);
+            visit(&mut from, &room);
+            room[behind] = 0;
+        }
+
+        let cut = from.below(ROOM_NUMBERS);
+        visit(&mut from, &room[..cut]);
+        visit(&mut from, &room[..ROOM_NUMBERS - 1]);
+        room.resize(ROOM_NUMBERS + 1 + from.below(40), 0);
+        visit(&mut from, &room);
+        *room.last_mut().expect("numbers") = from.pick(&damage::TELLING);
+        visit(&mut from, &room);
+
+        let at = from.pick(&places).min(other.len()).min(good.len());
+        let mut mixed = [&good[..at], &other[at..]].concat();
+        mixed.resize(ROOM_NUMBERS, 0);
+        visit(&mut from, &mixed);
+        let mut strange = random(&mut from);
+        strange.resize(from.pick(&[strange.len(), ROOM_NUMBERS, ROOM_NUMBERS]), 0);
+        visit(&mut from, &strange);
+        other = good;
+    }
+    cases
+}
+
 /// Places whose numbers are followed: the header, the sections' counts, the states, the records of
 /// variable length, and the lists of their places.
 fn telling_places(words: &[u32], good: &[u32]) -> Vec<usize> {

@@ -63,7 +63,7 @@ pub fn each_word_damaged(mut visit: impl FnMut(&[u32])) -> usize {
 }
 
 /// Small tables that have something in every section, and one that has no states.
-fn telling_tables() -> Vec<Vec<u32>> {
+pub fn telling_tables() -> Vec<Vec<u32>> {
     let mut from = Seeded::new(9);
     let whole = |table: &Table| {
         let has_actions = |accept: &Accept| !accept.actions.is_empty();

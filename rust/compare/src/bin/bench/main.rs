@@ -6,6 +6,8 @@
 #[cfg(not(no_oracle))]
 mod decode;
 #[cfg(not(no_oracle))]
+mod encode;
+#[cfg(not(no_oracle))]
 mod lookups;
 #[cfg(not(no_oracle))]
 mod runs;
@@ -24,6 +26,7 @@ fn main() {
     runs::scans();
     runs::classifications();
     decode::decodings();
+    encode::encodings();
     lookups::lookups();
 }
 
