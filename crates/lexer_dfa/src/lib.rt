@@ -34,6 +34,8 @@ pub use configs::continuation_record;
 pub use continuations::Continuation;
 pub use continuations::char_continuation;
 pub use continuations::eof_continuation;
+pub use coverage::Covered;
+pub use coverage::coverage;
 pub use mode_counts::Listed;
 pub use mode_counts::compiled_mode_flags;
 pub use mode_counts::mode_state_counts;

@@ -65,7 +65,7 @@ normal-rules t r =
 -- A table that obeys the rules, decoded
 
 module _ (t : Table) (h : Fields t) (r : Rules t) (l : length (wordsOf t) ≤ 8192) (n : ℕ) (room : 16384 ≤ n) where
-  laid : laidOut (wordsOf t) n ≡ sectionsOf t
+  pub laid : laidOut (wordsOf t) n ≡ sectionsOf t
   unfolding laidOut
   laid = rw (le-ltb n 16384 room, le-ltb 8192 (length (wordsOf t)) l) (obeys-accepted t h l r .0)
 
@@ -138,7 +138,7 @@ module _ (t : Table) (h : Fields t) (r : Rules t) (l : length (wordsOf t) ≤ 81
   table-trip = record { table = t; fields = h; rules = r; words = refl; held = room-held; part = room-part; encoded = room-encoded; out = room-out; again = decoded-again; room = room-again }
 
 -- what is accepted is the words of a table that obeys the rules, within the limits
-accepted-table : (w : List ℕ) (n : ℕ) → Fit w → accepted (decodeOf w n) ≡ true → (t : Table) × Fields t × Rules t × (w ≡ wordsOf t) × (length w ≤ 8192) × (16384 ≤ n)
+pub accepted-table : (w : List ℕ) (n : ℕ) → Fit w → accepted (decodeOf w n) ≡ true → (t : Table) × Fields t × Rules t × (w ≡ wordsOf t) × (length w ≤ 8192) × (16384 ≤ n)
 unfolding decodedFrom judged
 accepted-table w n f h = go (laidOut w n) refl h
   where
@@ -161,11 +161,14 @@ round-trip w n f h =
     subst (λ u. Trip u n) (sym (t .3)) (table-trip (t .0) (t .1) (t .2) (subst (λ u. length u ≤ 8192) (t .3) (t .4)) n (t .5))
 
 -- every room that encoding accepts is what decoding leaves for some accepted words: its own
-pub own-words : (d : List ℕ) → isTable d ≡ true → Left d
+pub own-room : (d : List ℕ) → isTable d ≡ true → (accepted (decodeOf (wordsPart d) (length d)) ≡ true) × (d ≡ roomOf (wordsPart d) (length d))
 unfolding isTable
-own-words d h =
+own-room d h =
     let s = both-true (accepted (decodeOf (wordsPart d) (length d))) (sameList (roomOf (wordsPart d) (length d)) d) h in
-    (wordsPart d, s .0, sym (same-equal (roomOf (wordsPart d) (length d)) d (s .1)))
+    (s .0, sym (same-equal (roomOf (wordsPart d) (length d)) d (s .1)))
+
+pub own-words : (d : List ℕ) → isTable d ≡ true → Left d
+own-words d h = let o = own-room d h in (wordsPart d, o .0, o .1)
 
 -- and no room that decoding leaves for accepted words is refused
 pub left-held : (d : List ℕ) (w : List ℕ) → Fit w → accepted (decodeOf w (length d)) ≡ true → d ≡ roomOf w (length d) → isTable d ≡ true
