@@ -196,6 +196,10 @@ LookupAnswer lexer_dfa_char_continuation(const uint32_t *room, size_t len, uint1
                                          int32_t symbol);
 LookupAnswer lexer_dfa_eof_continuation(const uint32_t *room, size_t len, uint16_t state);
 
+/* How many code points from 0 to 0x10FFFF are not dead in a state. The whole room is judged first:
+   NOT_TABLE exactly when it is not what decoding leaves for some accepted words. */
+LookupAnswer lexer_dfa_coverage(const uint32_t *room, size_t len, uint16_t state);
+
 /* The run of a state. */
 RunAnswer lexer_dfa_ascii_run(const uint32_t *room, size_t len, uint16_t state);
 

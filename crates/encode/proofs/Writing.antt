@@ -134,7 +134,7 @@ table-laid d h = go (laidOut (wordsPart d) (length d)) refl h
 
 -- the sections of a room are found exactly where it is a table
 module _ (d : List ℕ) where
-  found-table : {m s r a v x e c : ℕ} → tableIn d ≡ Found m s r a v x e c → (isTable d ≡ true) × (layoutOf (wordsPart d) ≡ Found m s r a v x e c)
+  pub found-table : {m s r a v x e c : ℕ} → tableIn d ≡ Found m s r a v x e c → (isTable d ≡ true) × (layoutOf (wordsPart d) ≡ Found m s r a v x e c)
   unfolding tableIn
   found-table {m} {s} {r} {a} {v} {x} {e} {c} h = go (isTable d) refl h
     where
@@ -142,7 +142,7 @@ module _ (d : List ℕ) where
       go true i k = (i, k)
       go false i k = let z : _≡_ {A = ℕ} 0 1 = cc in absurd (omega arith)
 
-  unfound-table : {o : Refusal} → tableIn d ≡ Unfound o → isTable d ≡ false
+  pub unfound-table : {o : Refusal} → tableIn d ≡ Unfound o → isTable d ≡ false
   unfolding tableIn
   unfound-table {o} h = go (isTable d) refl h
     where

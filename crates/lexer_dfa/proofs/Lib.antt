@@ -6,3 +6,4 @@ pub mod Unique
 pub mod UniqueLookups
 pub mod LookupExamples
 pub mod Looking
+pub mod Covered

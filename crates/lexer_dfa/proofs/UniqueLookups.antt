@@ -19,6 +19,7 @@ use Rattle.mode_counts.proofs.Answers as mode-counts
 use Rattle.targets.proofs.ascii_target.Reads as ascii-target
 use Rattle.targets.proofs.char_target.Reads as char-target
 use Rattle.targets.proofs.eof_target.Reads as eof-target
+use Rattle.targets.proofs.find_wide_row.Reads as find-wide-row
 use Rattle.targets.proofs.Laws as targets
 use Rattle.accepts.proofs.accept.Reads as accept
 use Rattle.accepts.proofs.accept_record.Reads as accept-record
@@ -34,6 +35,8 @@ use Rattle.configs.proofs.continuation_configs.Reads as continuation-configs
 use Rattle.configs.proofs.continuation_contexts_span.Reads as continuation-contexts-span
 use Rattle.configs.proofs.continuation_configs_span.Reads as continuation-configs-span
 use Rattle.configs.proofs.Laws as configs
+use Rattle.coverage.proofs.coverage.Reads as coverage
+use Rattle.coverage.proofs.Laws as covered
 use Rattle.state_run.proofs.ascii_run.Reads as ascii-run
 use Rattle.state_run.proofs.scan_ascii_run.Reads as scan-ascii-run
 use Rattle.state_run.proofs.scan_ascii_run_length.Reads as scan-ascii-run-length
@@ -84,6 +87,9 @@ char-target-unique κs a x y e f p q = targets.said-one x y (p ∙ sym q)
 pub eof-target-unique : Determines eof-target.Learnt
 eof-target-unique κs a x y e f p q = targets.said-one x y (p ∙ sym q)
 
+pub find-wide-row-unique : Determines find-wide-row.Learnt
+find-wide-row-unique κs a x y e f p q = p ∙ sym q
+
 -- accepts
 
 pub accept-unique : Determines accept.Learnt
@@ -122,6 +128,11 @@ continuation-contexts-span-unique κs a x y e f p q = p ∙ sym q
 
 pub continuation-configs-span-unique : Determines continuation-configs-span.Learnt
 continuation-configs-span-unique κs a x y e f p q = p ∙ sym q
+
+-- coverage
+
+pub coverage-unique : Determines coverage.Learnt
+coverage-unique κs a x y e f p q = covered.said-one x y (p ∙ sym q)
 
 -- state_run
 

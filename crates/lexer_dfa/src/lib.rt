@@ -34,6 +34,8 @@ pub use configs::continuation_record;
 pub use continuations::Continuation;
 pub use continuations::char_continuation;
 pub use continuations::eof_continuation;
+pub use coverage::Covered;
+pub use coverage::coverage;
 pub use encode::Encoded;
 pub use encode::encode;
 pub use mode_counts::Listed;

@@ -26,6 +26,9 @@ use Rattle.targets.specs.Targets as targeting
 use Rattle.accepts.specs.declared.Accepted.{Accepted}
 use Rattle.accepts.specs.declared.Accepted.the-variants as accepting
 use Rattle.accepts.specs.Accept as accept
+use Rattle.coverage.specs.declared.Covered.{Covered}
+use Rattle.coverage.specs.declared.Covered.the-variants as covered
+use Rattle.coverage.specs.Coverage as covering
 use Rattle.accepts.specs.declared.AcceptRecord.{AcceptRecord}
 use Rattle.accepts.specs.declared.AcceptRecord.the-variants as accepted
 use Rattle.accepts.specs.Record as recorded
@@ -103,6 +106,16 @@ module _ {a : Accepted} where
   pub accepted-no : a ≡ accepting.NotTable → record { value = 0; number = 9 } ≡ valueInC (accept.said a)
   accepted-no e = rw e
 
+module _ {a : Covered} where
+  pub covered-points : {n : ℕ} → a ≡ covered.Points n → record { value = n; number = 0 } ≡ valueInC (covering.said a)
+  covered-points e = rw e
+
+  pub covered-no-state : a ≡ covered.NoState → record { value = 0; number = 8 } ≡ valueInC (covering.said a)
+  covered-no-state e = rw e
+
+  pub covered-no : a ≡ covered.NotTable → record { value = 0; number = 9 } ≡ valueInC (covering.said a)
+  covered-no e = rw e
+
 module _ {a : Target} where
   pub target-to : {t : ℕ} → a ≡ target.To t → record { value = t; number = 0 } ≡ valueInC (targeting.said a)
   target-to e = rw e
@@ -168,4 +181,4 @@ module _ {a : StateScan} where
   scan-no e = rw e
 
 pub ruleset looking =
-    (needs, run-in-c, value-in-c, accept-in-c, continuation-in-c, scan-in-c, listed-says, listed-leaves, compiled-some, compiled-no, count-of, count-no, start-at, start-nowhere, start-no, accepted-number, accepted-no-state, accepted-no, target-to, target-no-state, target-no, continued-number, continued-no-state, continued-no, listed-numbers, listed-refused, accept-there, accept-none, accept-no, continuation-there, continuation-none, continuation-no, stop-exit, stop-end, scan-none, scan-there, scan-no)
+    (needs, run-in-c, value-in-c, accept-in-c, continuation-in-c, scan-in-c, listed-says, listed-leaves, compiled-some, compiled-no, count-of, count-no, start-at, start-nowhere, start-no, accepted-number, accepted-no-state, accepted-no, covered-points, covered-no-state, covered-no, target-to, target-no-state, target-no, continued-number, continued-no-state, continued-no, listed-numbers, listed-refused, accept-there, accept-none, accept-no, continuation-there, continuation-none, continuation-no, stop-exit, stop-end, scan-none, scan-there, scan-no)

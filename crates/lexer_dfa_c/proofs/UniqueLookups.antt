@@ -11,6 +11,7 @@ use Rattle.lexer_dfa_c.proofs.lexer_dfa_char_target.Reads as char-targe
 use Rattle.lexer_dfa_c.proofs.lexer_dfa_eof_target.Reads as eof-target
 use Rattle.lexer_dfa_c.proofs.lexer_dfa_char_continuation.Reads as char-continuation
 use Rattle.lexer_dfa_c.proofs.lexer_dfa_eof_continuation.Reads as eof-continuation
+use Rattle.lexer_dfa_c.proofs.lexer_dfa_coverage.Reads as coverage
 use Rattle.lexer_dfa_c.proofs.lexer_dfa_ascii_run.Reads as ascii-run
 use Rattle.lexer_dfa_c.proofs.lexer_dfa_scan_ascii_run.Reads as scan-ascii-run
 use Rattle.lexer_dfa_c.proofs.lexer_dfa_accept_record.Reads as accept-record
@@ -52,6 +53,9 @@ c-char-continuation-unique κs a x y e f p q = p ∙ sym q
 
 pub c-eof-continuation-unique : Determines eof-continuation.Learnt
 c-eof-continuation-unique κs a x y e f p q = p ∙ sym q
+
+pub c-coverage-unique : Determines coverage.Learnt
+c-coverage-unique κs a x y e f p q = p ∙ sym q
 
 pub c-ascii-run-unique : Determines ascii-run.Learnt
 c-ascii-run-unique κs a x y e f p q = p ∙ sym q

@@ -18,6 +18,7 @@ ghost use Rattle.accepts.specs.Accept as accepting;
 ghost use Rattle.accepts.specs.Record as recorded;
 ghost use Rattle.continuations.specs.Continuation as continuing;
 ghost use Rattle.configs.specs.Configs as resumed;
+ghost use Rattle.coverage.specs.Coverage as covering;
 ghost use Rattle.state_run.specs.StateRun as scanning;
 ghost use Rattle.lexer_dfa_c.specs.Answers.{answeredInC, runInC, scanInC, scanCall, classInC, decodedInC};
 ghost use Rattle.lexer_dfa_c.specs.Lookups.{valueInC, listedInC, acceptInC, continuationInC, stateScanInC};
@@ -29,6 +30,7 @@ use lexer_dfa::ByteClass;
 use lexer_dfa::Compiled;
 use lexer_dfa::Continuation;
 use lexer_dfa::ContinuationRecord;
+use lexer_dfa::Covered;
 use lexer_dfa::Decoded;
 use lexer_dfa::Encoded;
 use lexer_dfa::Listed;
@@ -536,6 +538,33 @@ pub extern "C" fn lexer_dfa_eof_continuation(room: &[u32], state: u16) -> CValue
     ensures { λ r. ⌜ r ≡ valueInC (continuing.eofContinuation (now (room .entry)) state) ⌝ }
 {
     continued_in_c(lexer_dfa::eof_continuation(room, state))
+}
+
+fn covered_in_c(covered: Covered) -> CValue
+    ensures { λ r. ⌜ r ≡ valueInC (covering.said covered) ⌝ }
+{
+    match covered {
+        Covered::Points(n) => CValue {
+            value: n,
+            number: 0,
+        },
+        Covered::NoState => CValue {
+            value: 0,
+            number: STATE,
+        },
+        Covered::NotTable => CValue {
+            value: 0,
+            number: NOT_TABLE,
+        },
+    }
+}
+
+// How many code points are not dead in a state.
+#[no_mangle]
+pub extern "C" fn lexer_dfa_coverage(room: &[u32], state: u16) -> CValue
+    ensures { λ r. ⌜ r ≡ valueInC (covering.coverageOf (now (room .entry)) state) ⌝ }
+{
+    covered_in_c(lexer_dfa::coverage(room, state))
 }
 
 // The run of a state.

@@ -97,7 +97,7 @@ module _ (t : Table) (h : Fields t) (r : Rules t) (w : List ℕ) (k : Held t w) 
   -- States
 
   -- the four numbers of a state
-  state-place : (s : ℕ) → s < length (t .states) → Within w (getD w 3 0) (s * 4 + getD w 2 0 + 1) (stateWords (stateOf t s))
+  pub state-place : (s : ℕ) → s < length (t .states) → Within w (getD w 3 0) (s * 4 + getD w 2 0 + 1) (stateWords (stateOf t s))
   state-place s l =
       let n : length (each stateWords (take s (t .states))) ≡ s * 4 =
       sized stateWords 4 (take s (t .states)) (all-of (λ x. length (stateWords x) ≡ 4) (λ x. refl) (take s (t .states))) ∙ ap (λ m. m * 4) (length-take-le s (t .states) (omega arith)) in
@@ -112,7 +112,7 @@ module _ (t : Table) (h : Fields t) (r : Rules t) (w : List ℕ) (k : Held t w) 
   state-none s l = state-absent w (k .long) (opens (k .states)) (inside (k .states)) s (omega (arith, counts (k .states)))
 
   -- what is said of a state that is there, and STATE of one that is not
-  of-state : (s : ℕ) (f : ℕ → Said) (y : Said) → ((p : ℕ) → s < length (t .states) → Within w (getD w 3 0) p (stateWords (stateOf t s)) → f p ≡ y)
+  pub of-state : (s : ℕ) (f : ℕ → Said) (y : Said) → ((p : ℕ) → s < length (t .states) → Within w (getD w 3 0) p (stateWords (stateOf t s)) → f p ≡ y)
       → rooms.ofState w s f ≡ pick (ltb s (length (t .states))) y (no STATE 0)
   unfolding follow
   of-state s f y g = go (ltb s (length (t .states))) refl
@@ -128,7 +128,7 @@ module _ (t : Table) (h : Fields t) (r : Rules t) (w : List ℕ) (k : Held t w) 
     number-ascii : getD w p 0 ≡ st .ascii
     number-ascii = at-head (z .stands)
 
-    number-wide : getD w (p + 1) 0 ≡ st .wide
+    pub number-wide : getD w (p + 1) 0 ≡ st .wide
     number-wide = at-head (on (st .ascii ∷ []) (st .wide ∷ st .eof ∷ st .accept ∷ z .post) (z .stands))
 
     number-eof : getD w (p + 2) 0 ≡ st .eof
@@ -227,7 +227,7 @@ module _ (t : Table) (h : Fields t) (r : Rules t) (w : List ℕ) (k : Held t w) 
     row-past x b = rw (row-at, le-ltb x 128 b)
 
   -- the rows of a state are there
-  has-rows : (s : ℕ) → s < length (t .states) → (stateOf t s .ascii < length (t .ascii)) × (stateOf t s .wide < length (t .wide))
+  pub has-rows : (s : ℕ) → s < length (t .states) → (stateOf t s .ascii < length (t .ascii)) × (stateOf t s .wide < length (t .wide))
   has-rows s l =
       let q = all-nth (λ x. (x .ascii < length (t .ascii)) × (x .wide < length (t .wide)) × Good t (x .eof) × NoneOr (length (t .accepts)) (x .accept)) (t .states) s absent (r .rule2) l in
       (q .0, q .1)
@@ -252,7 +252,7 @@ module _ (t : Table) (h : Fields t) (r : Rules t) (w : List ℕ) (k : Held t w) 
   -- Wide rows
 
   -- the list of places leads to a wide row
-  wide-row : (row : ℕ) → row < length (t .wide) → (p : ℕ) × (wideRowAt w row ≡ place.At p) × Within w (getD w 6 0) p (wideWords (getD (t .wide) row []))
+  pub wide-row : (row : ℕ) → row < length (t .wide) → (p : ℕ) × (wideRowAt w row ≡ place.At p) × Within w (getD w 6 0) p (wideWords (getD (t .wide) row []))
   unfolding wideRowAt
   wide-row row l =
       let q = listed-is (k .wide) (k .wide-places) row [] l (omega arith) in

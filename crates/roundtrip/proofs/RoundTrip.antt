@@ -65,7 +65,7 @@ normal-rules t r =
 -- A table that obeys the rules, decoded
 
 module _ (t : Table) (h : Fields t) (r : Rules t) (l : length (wordsOf t) ≤ 8192) (n : ℕ) (room : 16384 ≤ n) where
-  laid : laidOut (wordsOf t) n ≡ sectionsOf t
+  pub laid : laidOut (wordsOf t) n ≡ sectionsOf t
   unfolding laidOut
   laid = rw (le-ltb n 16384 room, le-ltb 8192 (length (wordsOf t)) l) (obeys-accepted t h l r .0)
 
@@ -138,7 +138,7 @@ module _ (t : Table) (h : Fields t) (r : Rules t) (l : length (wordsOf t) ≤ 81
   table-trip = record { table = t; fields = h; rules = r; words = refl; held = room-held; part = room-part; encoded = room-encoded; out = room-out; again = decoded-again; room = room-again }
 
 -- what is accepted is the words of a table that obeys the rules, within the limits
-accepted-table : (w : List ℕ) (n : ℕ) → Fit w → accepted (decodeOf w n) ≡ true → (t : Table) × Fields t × Rules t × (w ≡ wordsOf t) × (length w ≤ 8192) × (16384 ≤ n)
+pub accepted-table : (w : List ℕ) (n : ℕ) → Fit w → accepted (decodeOf w n) ≡ true → (t : Table) × Fields t × Rules t × (w ≡ wordsOf t) × (length w ≤ 8192) × (16384 ≤ n)
 unfolding decodedFrom judged
 accepted-table w n f h = go (laidOut w n) refl h
   where

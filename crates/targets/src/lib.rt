@@ -96,7 +96,8 @@ fn wide_row_past(room: &[u32], words: u32, runs: u32, start: u32, end: u32, row:
     Found::Outside
 }
 
-fn find_wide_row(room: &[u32], row: u32) -> Found
+// Where a wide row stands: its length, and its ranges behind it.
+pub fn find_wide_row(room: &[u32], row: u32) -> Found
     ensures { λ r. ⌜ r ≡ wideRowAt (now (room .entry)) row ⌝ }
 {
     if 8 < room.len() {

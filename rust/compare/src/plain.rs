@@ -1,6 +1,7 @@
 //! Document 01, read once more and as plainly as it goes: apart from the proved code, and apart
 //! from the original, which has no numbers and places of refusals. The library is held to these.
 
+pub mod coverage;
 mod decode;
 mod encode;
 pub mod lookup;

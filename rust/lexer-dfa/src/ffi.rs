@@ -173,6 +173,7 @@ lookups! {
     lexer_dfa_accept as accept(state: u16) -> LookupAnswer;
     lexer_dfa_char_continuation as char_continuation(state: u16, symbol: i32) -> LookupAnswer;
     lexer_dfa_eof_continuation as eof_continuation(state: u16) -> LookupAnswer;
+    lexer_dfa_coverage as coverage(state: u16) -> LookupAnswer;
     lexer_dfa_ascii_run as ascii_run(state: u16) -> RunAnswer;
     lexer_dfa_accept_record as accept_record(accept: u32) -> AcceptAnswer;
     lexer_dfa_accept_actions as accept_actions(accept: u32) -> Span;
@@ -284,6 +285,7 @@ mod tests {
                 eof_target(room, 0),
                 char_continuation(room, 0, 65),
                 eof_continuation(room, 0),
+                coverage(room, 0),
             ];
             assert!(values.iter().all(|answer| (answer.number, answer.value) == (9, 0)));
             let answer = ascii_run(room, 0);

@@ -143,6 +143,12 @@ pub fn eof_continuation(room: &[u32], state: u16) -> Result<Option<u32>, Refusal
     unless_none(ffi::eof_continuation(room, state))
 }
 
+/// How many code points from 0 to 0x10FFFF are not dead in a state. The whole room is judged first:
+/// NOT-TABLE exactly when it is not what decoding leaves for some accepted words.
+pub fn coverage(room: &[u32], state: u16) -> Result<u32, Refusal> {
+    value(ffi::coverage(room, state))
+}
+
 /// The run of a state.
 pub fn ascii_run(room: &[u32], state: u16) -> Result<AsciiRun, Refusal> {
     AsciiRun::from_answer(ffi::ascii_run(room, state))

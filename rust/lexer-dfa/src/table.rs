@@ -58,6 +58,7 @@ pub struct Decoded {
 /// assert_eq!(table.char_target(start, 'p' as i32)?, start);
 /// assert_eq!(table.char_target(start, '°' as i32)?, lexer_dfa::DEAD_STATE);
 /// assert_eq!(table.scan(start, b"10 ply")?, Some(&b"10 ply"[..]));
+/// assert_eq!(table.coverage(start)?, 128);
 /// # Ok::<(), lexer_dfa::Refusal>(())
 /// ```
 #[derive(Clone, Eq, PartialEq)]
@@ -183,6 +184,11 @@ impl Table {
     #[inline]
     pub fn eof_continuation(&self, state: u16) -> Result<Option<u32>, Refusal> {
         lookup::eof_continuation(&self.room, state)
+    }
+
+    /// How many code points from 0 to 0x10FFFF are not dead in a state.
+    pub fn coverage(&self, state: u16) -> Result<u32, Refusal> {
+        lookup::coverage(&self.room, state)
     }
 
     /// The run of a state.

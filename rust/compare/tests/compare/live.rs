@@ -2,6 +2,7 @@
 
 pub mod class;
 pub mod classify;
+pub mod coverage;
 pub mod decode;
 pub mod encode;
 pub mod examples;

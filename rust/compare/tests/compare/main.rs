@@ -6,6 +6,7 @@
 //! run. A word runs only the checks whose names have it.
 
 mod byte;
+mod coverage;
 mod decode;
 mod encode;
 mod examples;
@@ -81,6 +82,9 @@ fn checks() -> Vec<(&'static str, Result<Check, String>)> {
         ("lookup: seeded tables, by the original", live!(lookup::seeded)),
         ("lookup: samples and crowded tables, by the original", live!(lookup::samples)),
         ("lookup: strange rooms, by the plain reading", Ok(lookup::strange)),
+        ("coverage: every point, by the original", live!(coverage::every_point)),
+        ("coverage: seeded tables, by the plain reading", Ok(coverage::seeded)),
+        ("coverage: strange rooms, by the plain reading", Ok(coverage::strange)),
         ("samples: what stands in samples/", Ok(samples::are_written)),
         ("record: the sample of replay, by the original", sample()),
     ]

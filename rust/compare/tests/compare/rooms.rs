@@ -7,7 +7,7 @@ use compare::tables::{self, damage};
 use lexer_dfa::ROOM_NUMBERS;
 
 /// The numbers of the room that decoding leaves for these words, without the zeros behind them.
-fn used(words: &[u32]) -> Vec<u32> {
+pub fn used(words: &[u32]) -> Vec<u32> {
     let mut room = plain::room(words, ROOM_NUMBERS);
     let last = room.iter().rposition(|&number| number != 0);
     room.truncate(last.map_or(0, |last| last + 1));
@@ -112,7 +112,7 @@ pub fn each_nearly_left(mut visit: impl FnMut(&mut Seeded, &[u32])) -> usize {
 
 /// Places whose numbers are followed: the header, the sections' counts, the states, the records of
 /// variable length, and the lists of their places.
-fn telling_places(words: &[u32], good: &[u32]) -> Vec<usize> {
+pub fn telling_places(words: &[u32], good: &[u32]) -> Vec<usize> {
     let lists = 9 + words.len();
     let states = good[2] as usize + 1..good[3] as usize;
     let counts = damage::places(words).into_iter().map(|word| word + 9);
@@ -121,7 +121,7 @@ fn telling_places(words: &[u32], good: &[u32]) -> Vec<usize> {
 
 /// Changes one number, at a telling place or one that follows it as often as at any place: by one,
 /// by a bit, to the place of something else, to an end, or to a value at a field's bound.
-fn change(from: &mut Seeded, room: &mut [u32], places: &[usize]) {
+pub fn change(from: &mut Seeded, room: &mut [u32], places: &[usize]) {
     let near = from.pick(places) + from.pick(&[0, 0, 0, 1, 2, 3]);
     let any = from.below(room.len());
     let at = from.pick(&[near, near, any]).min(room.len() - 1);
