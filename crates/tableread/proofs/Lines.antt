@@ -1,4 +1,4 @@
--- The laws of the line: its numbers in decimal, and its parts, one behind the other. Assumes nothing.
+-- The laws of the line: its parts, one behind the other. Assumes nothing.
 use Prim.Native.Nat.{ℕ, zero, suc, _+_, _*_, _-_, _/_, _%_, _^_, _<_, _≤_}
 use native.Mathlib.Nat.{pow-suc, one-le-pow, pow-le-pow-right, zero-lt-suc}
 use native.Mathlib.Numerals.{add-one, sub-one}
@@ -22,53 +22,10 @@ use Rattle.room.specs.Room.{each}
 use Rattle.codec.specs.declared.Decoded.{Decoded}
 use Rattle.codec.specs.declared.Decoded.the-variants.{Table, Refused}
 use Rattle.codec.specs.Decode.{said}
-use Rattle.tableread.proofs.Front.{front, front-in, front-many}
-use Rattle.tableread.specs.Line.{decimal, spaced, lineWith, lineOf}
-
--- Numbers in decimal
-
--- the fewest digits that hold a number are its decimal
-digits-are : (f k n : ℕ) → Fewest 10 1 n k → k ≤ f → digits 10 k n ≡ decimal f n
-unfolding decimal
-digits-are zero k n w h = absurd (omega arith)
-digits-are (suc f) zero n w h = absurd (omega arith)
-digits-are (suc f) (suc zero) n w h =
-    let l : n < 10 = omega arith in
-    let e : n % 10 ≡ n = omega arith in
-    rw (e, lt-ltb n 10 l)
-digits-are (suc f) (suc (suc k)) n w h =
-    let p : 10 ^ suc k ≤ n = rw sub-one at (w .2 (omega arith)) in
-    let a : 10 ^ suc k ≡ 10 ^ k * 10 = pow-suc 10 k in
-    let b : 10 ^ suc (suc k) ≡ 10 ^ suc k * 10 = pow-suc 10 (suc k) in
-    let l : 10 ≤ n = omega (arith, one-le-pow k 10 (zero-lt-suc 9)) in
-    let i : n / 10 < 10 ^ suc k = omega (arith, w .1) in
-    let j : 10 ^ k ≤ n / 10 = omega arith in
-    let r : digits 10 (suc k) (n / 10) ≡ decimal f (n / 10) = digits-are f (suc k) (n / 10) (omega arith, i, λ o. rw sub-one j) (omega arith) in
-    let m : n % 10 < 10 = omega arith in
-    rw (le-ltb n 10 l, r, lt-ltb (n % 10) 10 m)
-
--- and those of a number of 64 bits are at most 20
-few-digits : (x k : ℕ) → Fewest 10 1 x k → Fits w64 x → k ≤ 20
-few-digits x k w f = go (ltb 20 k) refl
-  where
-    go : (b : Bool) → ltb 20 k ≡ b → k ≤ 20
-    go true e =
-        let h : 20 < k = ltb-true 20 k e in
-        let i : 20 ≤ k - 1 = omega arith in
-        let l : 10 ^ 20 ≤ 10 ^ (k - 1) = pow-le-pow-right (zero-lt-suc 9) i in
-        let m : 10 ^ (k - 1) ≤ x = w .2 (omega arith) in
-        absurd (omega (arith, f .fits))
-    go false e = ltb-false 20 k e
-
--- a number has at most as many digits as it may
-decimal-length : (f n : ℕ) → length (decimal f n) ≤ f
-unfolding decimal
-decimal-length zero n = omega arith
-decimal-length (suc f) n = go (ltb n 10) (decimal-length f (n / 10))
-  where
-    go : (b : Bool) → length (decimal f (n / 10)) ≤ f → length (pick b ((48 + n) ∷ []) (decimal f (n / 10) ++ ((48 + n % 10) ∷ []))) ≤ suc f
-    go true h = omega arith
-    go false h = omega (arith, length-append (decimal f (n / 10)) ((48 + n % 10) ∷ []))
+use Rattle.program_io.specs.Decimal.{decimal}
+use Rattle.program_io.proofs.Front.{front, front-in, front-many}
+use Rattle.program_io.proofs.Decimal.{decimal-length, found}
+use Rattle.tableread.specs.Line.{spaced, lineWith, lineOf}
 
 -- numbers, each with its space
 each-length : (xs : List ℕ) → length (each spaced xs) ≤ 21 * length xs
@@ -106,16 +63,13 @@ module _ (x n : ℕ) (d : List ℕ) where
 
   module _ (k : ℕ) (ds : List ℕ) where
     -- they are the number in decimal, and stand behind the space
-    found : take k ds ≡ digits 10 k x → Fewest 10 1 x k → Fits w64 x → take k ds ≡ decimal 20 x
-    found e w h = e ∙ digits-are 20 k x w (few-digits x k w h)
-
     pub number-room : take k ds ≡ digits 10 k x → Fewest 10 1 x k → Fits w64 x → n + length (spaced x) ≤ length d → n + 1 + length (take k ds) ≤ length (set d n 32)
     unfolding spaced
-    number-room e w h f = let i : length (take k ds) ≡ length (decimal 20 x) = ap length (found e w h) in omega (arith, length-set d n 32)
+    number-room e w h f = let i : length (take k ds) ≡ length (decimal 20 x) = ap length (found x k ds e w h) in omega (arith, length-set d n 32)
 
     pub number-put : {r : ℕ} {new : List ℕ} → Put (take k ds) (n + 1) (set d n 32) r new → take k ds ≡ digits 10 k x → Fewest 10 1 x k → Fits w64 x → n + length (spaced x) ≤ length d → Put (spaced x) n d r new
     unfolding spaced
-    number-put p e w h f = put-one 32 (decimal 20 x) n d (rw (found e w h) at p) (omega arith)
+    number-put p e w h f = put-one 32 (decimal 20 x) n d (rw (found x k ds e w h) at p) (omega arith)
 
 -- what the writing of a number is left with
 pub ruleset number = (needs, put-size-1, number-place, number-room, number-put)
@@ -208,3 +162,6 @@ pub ruleset answering = (needs, ok-fits, no-fits, front-in, front-many, ok-line,
 -- the line of an answer that is known
 pub read-line : {text : List ℕ} {answer x : Decoded} → text ≡ lineOf (said answer) → answer ≡ x → text ≡ lineOf (said x)
 read-line e a = rw (← a) e
+
+-- what the answer to an input is left with
+pub ruleset answers = (needs, read-line)

@@ -1,15 +1,9 @@
 -- What `tableread` prints: document 01, "prints `ok MODES STATES WORDS` or `no NUMBER PLACE`". Assumes nothing.
-use Prim.Native.Nat.{ℕ, zero, suc, _+_, _/_, _%_}
+use Prim.Native.Nat.{ℕ}
 use mathlib.Core.List.{List, [], _∷_, _++_}
-use lib.Dec.{ltb}
 use Rattle.refusal.specs.Said.{Said, ok, no}
-use Rattle.refusal.specs.Lists.{pick}
 use Rattle.room.specs.Room.{each}
-
--- a number of at most k digits in decimal: it is a digit, or the digits of its tenth stand before its last
-unfoldable pub decimal : ℕ → ℕ → List ℕ
-decimal zero n = []
-decimal (suc k) n = pick (ltb n 10) ((48 + n) ∷ []) (decimal k (n / 10) ++ ((48 + n % 10) ∷ []))
+use Rattle.program_io.specs.Decimal.{decimal}
 
 -- a space and a number, which has 64 bits and so at most 20 digits
 unfoldable pub spaced : ℕ → List ℕ

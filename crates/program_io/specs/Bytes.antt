@@ -1,0 +1,45 @@
+-- What a program reads: document 01, "The program `tableread` reads little-endian words from standard input", and `tableshow` likewise. n is how many
+-- numbers the lent room has. Assumes nothing.
+use Prim.Native.Nat.{ℕ, _+_, _*_, _%_}
+use mathlib.Core.List.{List, [], _∷_}
+use lib.ListN.{length, getD}
+use lib.Dec.{ltb}
+use Rattle.refusal.specs.Said.{SHORT, LIMIT}
+use Rattle.refusal.specs.Lists.{pick}
+use Rattle.codec.specs.declared.Decoded.{Decoded}
+use Rattle.codec.specs.declared.Decoded.the-variants.{Refused}
+use Rattle.codec.specs.Decode.{decodeOf, roomOf}
+use Rattle.written.specs.Over.{zeros}
+
+-- the word of four bytes, the least first
+abbrev pub wordOf : ℕ → ℕ → ℕ → ℕ → ℕ
+wordOf a b c d = a + 256 * b + 65536 * c + 16777216 * d
+
+-- of the four from a place on
+abbrev pub wordAt : List ℕ → ℕ → ℕ
+wordAt bs at = wordOf (getD bs at 0) (getD bs (at + 1) 0) (getD bs (at + 2) 0) (getD bs (at + 3) 0)
+
+-- the whole words of bytes
+unfoldable pub wordsOf : List ℕ → List ℕ
+wordsOf [] = []
+wordsOf (a ∷ []) = []
+wordsOf (a ∷ b ∷ []) = []
+wordsOf (a ∷ b ∷ c ∷ []) = []
+wordsOf (a ∷ b ∷ c ∷ d ∷ bs) = wordOf a b c d ∷ wordsOf bs
+
+abbrev pub refused : ℕ → ℕ → Decoded
+refused n p = Refused (record { number = n; place = p })
+
+-- "1 to 3 spare bytes are SHORT at the whole words, after LIMIT and before decoding"
+unfoldable pub readOf : List ℕ → ℕ → Decoded
+readOf bs n =
+    pick (ltb 8192 (length (wordsOf bs))) (refused LIMIT 8192)
+    (pick (ltb 0 (length bs % 4)) (refused SHORT (length (wordsOf bs)))
+    (decodeOf (wordsOf bs) n))
+
+-- "Refused: all outputs zero."
+unfoldable pub roomRead : List ℕ → ℕ → List ℕ
+roomRead bs n =
+    pick (ltb 8192 (length (wordsOf bs))) (zeros n)
+    (pick (ltb 0 (length bs % 4)) (zeros n)
+    (roomOf (wordsOf bs) n))

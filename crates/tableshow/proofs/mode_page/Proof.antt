@@ -1,0 +1,12 @@
+-- What was shown from the front on is the page.
+use Rattle.tableshow.proofs.Shows.{pages}
+use Rattle.tableshow.proofs.mode_page.Statement.{statement}
+use Rattle.tableshow.proofs.mode_page.Tie as tie
+
+pub mode-page-spec : {M : Type 1} → statement M
+mode-page-spec =
+    tie.close
+    (tie.spec
+    (λ c κs. search pages)
+    (λ c. search pages)
+    (λ c. search pages))

@@ -1,0 +1,17 @@
+-- The parts are put one behind the other, by the tests that the code makes.
+use Rattle.tableshow.proofs.Shows.{shows}
+use Rattle.tableshow.proofs.page.put_actions.Statement.{statement}
+use Rattle.tableshow.proofs.page.put_actions.Tie as tie
+
+pub put-actions-spec : {M : Type 1} → statement M
+put-actions-spec =
+    tie.close
+    (tie.spec
+    (λ c. search shows)
+    (λ c κs. search shows)
+    (λ c. search shows)
+    (λ c. search shows)
+    (λ c. search shows)
+    (λ c κs. search shows)
+    (λ c. search shows)
+    (λ c. search shows))

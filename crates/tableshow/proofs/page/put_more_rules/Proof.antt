@@ -1,0 +1,29 @@
+-- The parts are put one behind the other, by the tests that the code makes.
+use Rattle.tableshow.proofs.Shows.{shows}
+use Rattle.tableshow.proofs.page.put_more_rules.Statement.{statement}
+use Rattle.tableshow.proofs.page.put_more_rules.Tie as tie
+
+pub put-more-rules-spec : {M : Type 1} → statement M
+put-more-rules-spec =
+    tie.close
+    (tie.spec
+    (λ c. search shows)
+    (λ c κs. search shows)
+    (λ c. search shows)
+    (λ c. search shows)
+    (λ c. search shows)
+    (λ c κs. search shows)
+    (λ c. search shows)
+    (λ c. search shows)
+    (λ c. search shows)
+    (λ c κs. search shows)
+    (λ c. search shows)
+    (λ c. search shows)
+    (λ c. search shows)
+    (λ c κs. search shows)
+    (λ c. search shows)
+    (λ c. search shows)
+    (λ c. search shows)
+    (λ c κs. search shows)
+    (λ c. search shows)
+    (λ c. search shows))

@@ -1,0 +1,16 @@
+-- What was shown is the text of the number that a call answered.
+use Rattle.tableshow.proofs.Parts.{parts}
+use Rattle.tableshow.proofs.page.put_said.Statement.{statement}
+use Rattle.tableshow.proofs.page.put_said.Tie as tie
+
+pub put-said-spec : {M : Type 1} → statement M
+put-said-spec =
+    tie.close
+    (tie.spec
+    (λ c κs. search parts)
+    (λ c κs. search parts)
+    (λ c κs. search parts)
+    (λ c κs. search parts)
+    (λ c κs. search parts)
+    (λ c. search parts)
+    (λ c. search parts))

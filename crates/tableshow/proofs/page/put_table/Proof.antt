@@ -1,0 +1,17 @@
+-- The parts are put one behind the other, by the tests that the code makes.
+use Rattle.tableshow.proofs.Shows.{shows}
+use Rattle.tableshow.proofs.page.put_table.Statement.{statement}
+use Rattle.tableshow.proofs.page.put_table.Tie as tie
+
+pub put-table-spec : {M : Type 1} → statement M
+put-table-spec =
+    tie.close
+    (tie.spec
+    (λ c. search shows)
+    (λ c κs. search shows)
+    (λ c. search shows)
+    (λ c κs. search shows)
+    (λ c. search shows)
+    (λ c κs. search shows)
+    (λ c. search shows)
+    (λ c. search shows))

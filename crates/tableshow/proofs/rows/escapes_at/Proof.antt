@@ -1,0 +1,18 @@
+-- The number is read at the place that the definition names.
+use Rattle.tableshow.proofs.Parts.{places}
+use Rattle.tableshow.proofs.rows.escapes_at.Statement.{statement}
+use Rattle.tableshow.proofs.rows.escapes_at.Tie as tie
+
+pub escapes-at-spec : {M : Type 1} → statement M
+escapes-at-spec =
+    tie.close
+    (tie.spec
+    (λ c κs. search places)
+    (λ c κs. search places)
+    (λ c κs. search places)
+    (λ c κs. search places)
+    (λ c κs. search places)
+    (λ c κs. search places)
+    (λ c κs. search places)
+    (λ c κs. search places)
+    (λ c. search places))

@@ -1,0 +1,14 @@
+-- A byte is stored where the page has a place for it.
+use Rattle.tableshow.proofs.Shows.{bytes}
+use Rattle.tableshow.proofs.text.put_byte.Statement.{statement}
+use Rattle.tableshow.proofs.text.put_byte.Tie as tie
+
+pub put-byte-spec : {M : Type 1} → statement M
+put-byte-spec =
+    tie.close
+    (tie.spec
+    (λ c. search bytes)
+    (λ c. search bytes)
+    (λ c. search bytes)
+    (λ c. search bytes)
+    (λ c. search bytes))

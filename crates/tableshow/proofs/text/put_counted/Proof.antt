@@ -1,0 +1,13 @@
+-- The parts are put one behind the other, by the tests that the code makes.
+use Rattle.tableshow.proofs.Shows.{shows}
+use Rattle.tableshow.proofs.text.put_counted.Statement.{statement}
+use Rattle.tableshow.proofs.text.put_counted.Tie as tie
+
+pub put-counted-spec : {M : Type 1} → statement M
+put-counted-spec =
+    tie.close
+    (tie.spec
+    (λ c κs. search shows)
+    (λ c κs. search shows)
+    (λ c. search shows)
+    (λ c. search shows))

@@ -1,0 +1,17 @@
+-- The digits that are put are those of the number.
+use Rattle.tableshow.proofs.Parts.{numbers}
+use Rattle.tableshow.proofs.text.put_four.Statement.{statement}
+use Rattle.tableshow.proofs.text.put_four.Tie as tie
+
+pub put-four-spec : {M : Type 1} → statement M
+put-four-spec =
+    tie.close
+    (tie.spec
+    (λ c κs. search numbers)
+    (λ c κs. search numbers)
+    (λ c κs. search numbers)
+    (λ c κs. search numbers)
+    (λ c. search numbers)
+    (λ c κs. search numbers)
+    (λ c. search numbers)
+    (λ c. search numbers))

@@ -1,0 +1,15 @@
+-- The digits that are put are those of the number.
+use Rattle.tableshow.proofs.Parts.{numbers}
+use Rattle.tableshow.proofs.text.put_number.Statement.{statement}
+use Rattle.tableshow.proofs.text.put_number.Tie as tie
+
+pub put-number-spec : {M : Type 1} → statement M
+put-number-spec =
+    tie.close
+    (tie.spec
+    (λ c κs. search numbers)
+    (λ c. search numbers)
+    (λ c. search numbers)
+    (λ c κs. search numbers)
+    (λ c. search numbers)
+    (λ c. search numbers))

@@ -1,0 +1,5 @@
+pub mod Shown
+pub mod Texts
+pub mod Names
+pub mod Rows
+pub mod Page

@@ -1,0 +1,329 @@
+// The rows of a state on a page. The room may be of any length and hold any numbers: a number that is not there reads as 0.
+ghost use mathlib.Core.Path.{_≡_};
+ghost use Prim.Native.Nat.{_+_, _*_, _^_, _<_, _≤_};
+ghost use lib.ListN.{getD};
+ghost use Rattle.targets.specs.Targets.{said};
+ghost use Rattle.tableshow.specs.Shown.{Shown};
+ghost use Rattle.tableshow.specs.Texts.{escapes-label};
+ghost use Rattle.tableshow.specs.Rows.{gap, after, ending, item, orElse, targetOn, edge, lowAfter, itemsAfter, edgeAt, lowAt, itemsAt, asciiFrom, asciiText, rangesFrom, rowText, listed, runAt, wideAt, escapesAt, wideRow, firstWith, sharedText, wideWith, wideText, escapesText};
+use crate::text::put_line;
+use crate::text::put_range;
+use crate::text::put_target;
+use crate::text::put_text;
+use lexer_dfa::Target;
+
+// What parts an item from the one before: `items` says how many stand on the line.
+fn put_gap(items: u32, page: &mut [u8], n: usize) -> usize
+    ensures { λ r. ⌜ Shown (gap items) n (now (page .entry)) r (now (page .exit)) ⌝ }
+{
+    if items == 3 {
+        return put_text(b"\n           ", page, n);
+    }
+    put_text(b"  ", page, n)
+}
+
+fn after(items: u32) -> u32
+    ensures { λ r. ⌜ r ≡ after items ⌝ }
+{
+    if items < 3 {
+        return items + 1;
+    }
+    1
+}
+
+fn put_ending(items: u32, page: &mut [u8], n: usize) -> usize
+    ensures { λ r. ⌜ Shown (ending items) n (now (page .entry)) r (now (page .exit)) ⌝ }
+{
+    if items == 0 {
+        return put_text(b"  none\n", page, n);
+    }
+    put_text(b"\n", page, n)
+}
+
+// A range, and where it leads.
+fn put_item(items: u32, low: u32, high: u32, kind: u32, to: u32, page: &mut [u8], n: usize) -> usize
+    ensures { λ r. ⌜ Shown (item items low high kind to) n (now (page .entry)) r (now (page .exit)) ⌝ }
+{
+    let behind_gap = put_gap(items, page, n);
+    let behind_range = put_range(low, high, page, behind_gap);
+    put_target(kind, to, page, behind_range)
+}
+
+// A target by its number; dead where there is none.
+pub(crate) fn number_of(target: Target) -> u32
+    ensures { λ r. ⌜ r ≡ orElse 65535 (said target) ⌝ }
+{
+    match target {
+        Target::To(t) => t as u32,
+        Target::NoState => 65535,
+        Target::NotTable => 65535,
+    }
+}
+
+// The target on a symbol.
+fn target_on(room: &[u32], state: u16, symbol: u32) -> u32
+    ensures { λ r. ⌜ r ≡ targetOn (now (room .entry)) state symbol ⌝ }
+{
+    if symbol < 128 {
+        return number_of(lexer_dfa::ascii_target(room, state, symbol as u8));
+    }
+    65535
+}
+
+// The range from `low` to `symbol`, if it ends there and is not dead.
+fn put_edge(
+    to: u32,
+    next: u32,
+    low: u32,
+    symbol: u32,
+    items: u32,
+    page: &mut [u8],
+    n: usize,
+) -> usize
+    ensures { λ r. ⌜ Shown (edge to next low symbol items) n (now (page .entry)) r (now (page .exit)) ⌝ }
+{
+    if to == next {
+        return n;
+    }
+    if to == 65535 {
+        return n;
+    }
+    put_item(items, low, symbol, 0, to, page, n)
+}
+
+fn low_after(to: u32, next: u32, low: u32, symbol: u32) -> u32
+    ensures { λ r. ⌜ r ≡ lowAfter to next low symbol ⌝ }
+{
+    if to == next {
+        return low;
+    }
+    symbol
+}
+
+fn items_after(to: u32, next: u32, items: u32) -> u32
+    ensures { λ r. ⌜ r ≡ itemsAfter to next items ⌝ }
+{
+    if to == next {
+        return items;
+    }
+    if to == 65535 {
+        return items;
+    }
+    after(items)
+}
+
+fn put_edge_at(
+    room: &[u32],
+    state: u16,
+    low: u32,
+    symbol: u32,
+    items: u32,
+    page: &mut [u8],
+    n: usize,
+) -> usize
+    requires { ⌜ symbol < 128 ⌝ }
+    ensures { λ r. ⌜ Shown (edgeAt (now (room .entry)) state low symbol items) n (now (page .entry)) r (now (page .exit)) ⌝ }
+{
+    let to = target_on(room, state, symbol);
+    let next = target_on(room, state, symbol + 1);
+    put_edge(to, next, low, symbol, items, page, n)
+}
+
+fn low_at(room: &[u32], state: u16, low: u32, symbol: u32) -> u32
+    requires { ⌜ symbol < 128 ⌝ }
+    ensures { λ r. ⌜ r ≡ lowAt (now (room .entry)) state low symbol ⌝ }
+{
+    let to = target_on(room, state, symbol);
+    let next = target_on(room, state, symbol + 1);
+    low_after(to, next, low, symbol + 1)
+}
+
+fn items_at(room: &[u32], state: u16, symbol: u32, items: u32) -> u32
+    requires { ⌜ symbol < 128 ⌝ }
+    ensures { λ r. ⌜ r ≡ itemsAt (now (room .entry)) state symbol items ⌝ }
+{
+    let to = target_on(room, state, symbol);
+    let next = target_on(room, state, symbol + 1);
+    items_after(to, next, items)
+}
+
+fn put_edges(room: &[u32], state: u16, count: u32, page: &mut [u8], n: usize) -> usize
+    requires { ⌜ count ≤ 128 ⌝ }
+    ensures { λ r. ⌜ Shown (asciiFrom (now (room .entry)) state count 0 0 0) n (now (page .entry)) r (now (page .exit)) ⌝ }
+{
+    let mut left = count;
+    let mut symbol = 0u32;
+    let mut low = 0u32;
+    let mut items = 0u32;
+    let mut m = n;
+    while 0 < left {
+        let next_low = low_at(room, state, low, symbol);
+        let next_items = items_at(room, state, symbol, items);
+        m = put_edge_at(room, state, low, symbol, items, page, m);
+        low = next_low;
+        items = next_items;
+        symbol += 1;
+        left -= 1;
+    }
+    put_ending(items, page, m)
+}
+
+// The ascii row of a state.
+pub(crate) fn put_ascii(room: &[u32], state: u16, page: &mut [u8], n: usize) -> usize
+    ensures { λ r. ⌜ Shown (asciiText (now (room .entry)) state) n (now (page .entry)) r (now (page .exit)) ⌝ }
+{
+    let m = put_text(b"  ascii  ", page, n);
+    put_edges(room, state, 128, page, m)
+}
+
+// A number of the room.
+pub(crate) fn number_at(room: &[u32], at: usize) -> u32
+    ensures { λ r. ⌜ r ≡ getD (now (room .entry)) at 0 ⌝ }
+{
+    if at < room.len() {
+        return room[at];
+    }
+    0
+}
+
+// So many ranges behind the number at `at`.
+fn put_ranges(kind: u32, room: &[u32], count: u32, at: usize, page: &mut [u8], n: usize) -> usize
+    requires { ⌜ at < 2 ^ 40 ⌝ }
+    ensures { λ r. ⌜ Shown (rangesFrom kind (now (room .entry)) count (at + 1) 0) n (now (page .entry)) r (now (page .exit)) ⌝ }
+{
+    let mut left = count;
+    let mut here = at + 1;
+    let mut items = 0u32;
+    let mut m = n;
+    while 0 < left {
+        let low = number_at(room, here);
+        let high = number_at(room, here + 1);
+        let to = number_at(room, here + 2);
+        m = put_item(items, low, high, kind, to, page, m);
+        items = after(items);
+        here += 3;
+        left -= 1;
+    }
+    put_ending(items, page, m)
+}
+
+// The row whose length stands at a place.
+fn put_row(label: &[u8], kind: u32, room: &[u32], at: usize, page: &mut [u8], n: usize) -> usize
+    requires { ⌜ at < 2 ^ 40 ⌝ }
+    ensures { λ r. ⌜ Shown (rowText (now (label .entry)) kind (now (room .entry)) at) n (now (page .entry)) r (now (page .exit)) ⌝ }
+{
+    let count = number_at(room, at);
+    if count == 0 {
+        return n;
+    }
+    let m = put_text(label, page, n);
+    put_ranges(kind, room, count, at, page, m)
+}
+
+// Number `i` of the places behind the words and behind so many places.
+fn listed(room: &[u32], words: u32, runs: u32, wides: u32, accepts: u32, i: u32) -> u32
+    ensures { λ r. ⌜ r ≡ listed (now (room .entry)) words runs wides accepts i ⌝ }
+{
+    let before = 9 + (words as usize) + (runs as usize) + (wides as usize) + (accepts as usize);
+    number_at(room, before + (i as usize))
+}
+
+fn count_at(room: &[u32], at: u32) -> u32
+    ensures { λ r. ⌜ r ≡ getD (now (room .entry)) at 0 ⌝ }
+{
+    number_at(room, at as usize)
+}
+
+// Where a run stands, a wide row, and a state's escapes.
+pub(crate) fn run_at(room: &[u32], state: u16) -> u32
+    ensures { λ r. ⌜ r ≡ runAt (now (room .entry)) state ⌝ }
+{
+    listed(room, number_at(room, 0), 0, 0, 0, state as u32)
+}
+
+fn wide_at(room: &[u32], row: u32) -> u32
+    ensures { λ r. ⌜ r ≡ wideAt (now (room .entry)) row ⌝ }
+{
+    let runs = count_at(room, number_at(room, 3));
+    listed(room, number_at(room, 0), runs, 0, 0, row)
+}
+
+fn escapes_at(room: &[u32], state: u16) -> u32
+    ensures { λ r. ⌜ r ≡ escapesAt (now (room .entry)) state ⌝ }
+{
+    let runs = count_at(room, number_at(room, 3));
+    let wides = count_at(room, number_at(room, 5));
+    let accepts = count_at(room, number_at(room, 6));
+    listed(room, number_at(room, 0), runs, wides, accepts, state as u32)
+}
+
+fn wide_row_from(room: &[u32], states: u32, state: u16) -> u32
+    ensures { λ r. ⌜ r ≡ getD (now (room .entry)) (states + state * 4 + 2) 0 ⌝ }
+{
+    number_at(room, (states as usize) + (state as usize) * 4 + 2)
+}
+
+// The number of a state's wide row.
+fn wide_row(room: &[u32], state: u16) -> u32
+    ensures { λ r. ⌜ r ≡ wideRow (now (room .entry)) state ⌝ }
+{
+    wide_row_from(room, number_at(room, 2), state)
+}
+
+// The first state that has a wide row, of those before `state`; or that one.
+fn first_with(room: &[u32], row: u32, state: u16) -> u16
+    ensures { λ r. ⌜ r ≡ firstWith (now (room .entry)) row state 0 ⌝ }
+{
+    let mut left = state;
+    let mut t = 0u16;
+    while 0 < left {
+        if wide_row(room, t) == row {
+            return t;
+        }
+        t += 1;
+        left -= 1;
+    }
+    t
+}
+
+fn put_shared(room: &[u32], at: u32, first: u16, page: &mut [u8], n: usize) -> usize
+    ensures { λ r. ⌜ Shown (sharedText (now (room .entry)) at first) n (now (page .entry)) r (now (page .exit)) ⌝ }
+{
+    if count_at(room, at) == 0 {
+        return n;
+    }
+    put_line(b"  wide     as state ", first as u64, page, n)
+}
+
+fn put_wide_at(room: &[u32], state: u16, at: u32, first: u16, page: &mut [u8], n: usize) -> usize
+    ensures { λ r. ⌜ Shown (wideWith (now (room .entry)) state at first) n (now (page .entry)) r (now (page .exit)) ⌝ }
+{
+    if first == state {
+        return put_row(b"  wide   ", 0, room, at as usize, page, n);
+    }
+    put_shared(room, at, first, page, n)
+}
+
+// The wide row of a state, or the state before it that has the same.
+pub(crate) fn put_wide(room: &[u32], state: u16, page: &mut [u8], n: usize) -> usize
+    ensures { λ r. ⌜ Shown (wideText (now (room .entry)) state) n (now (page .entry)) r (now (page .exit)) ⌝ }
+{
+    let row = wide_row(room, state);
+    let first = first_with(room, row, state);
+    let at = wide_at(room, row);
+    put_wide_at(room, state, at, first, page, n)
+}
+
+fn put_escapes_at(room: &[u32], at: u32, page: &mut [u8], n: usize) -> usize
+    ensures { λ r. ⌜ Shown (rowText escapes-label 1 (now (room .entry)) (at + 1)) n (now (page .entry)) r (now (page .exit)) ⌝ }
+{
+    put_row(b"  escapes", 1, room, (at as usize) + 1, page, n)
+}
+
+// The escape row of a state.
+pub(crate) fn put_escapes(room: &[u32], state: u16, page: &mut [u8], n: usize) -> usize
+    ensures { λ r. ⌜ Shown (escapesText (now (room .entry)) state) n (now (page .entry)) r (now (page .exit)) ⌝ }
+{
+    let at = escapes_at(room, state);
+    put_escapes_at(room, at, page, n)
+}
