@@ -34,7 +34,7 @@ use Rattle.room.specs.Room.{roomFor}
 use Rattle.written.proofs.clear.Reads as clear
 use Rattle.room.proofs.fill.Reads as fill
 use Rattle.codec.proofs.decode.Reads as decode
-use Rattle.lexer_dfa.specs.Unique.{Determines, DeterminesPart, DeterminesBoth}
+use Rattle.unique.specs.Unique.{Determines, DeterminesPart, DeterminesBoth}
 
 -- ascii_range
 
