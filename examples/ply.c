@@ -3,8 +3,8 @@
  * digits, and skips the ply's number with its run; then decodes a table of one state.
  * rust/lexer-dfa/examples/ply.rs prints the same.
  *
- *     rt staticlib lexer_dfa_c
- *     gcc -O2 -Iinclude examples/ply.c target/staticlib/liblexer_dfa_c.a -o target/ply
+ *     ./build
+ *     gcc -O2 -Iinclude examples/ply.c target/liblexer_dfa.a -o target/ply
  *     target/ply
  */
 #include "lexer_dfa.h"

@@ -2,8 +2,7 @@
  * The proved lexer DFA table core for C: ASCII ranges and runs, the decoding and encoding
  * of tables, and lookups.
  *
- * The functions stand in target/staticlib/liblexer_dfa_c.a, which `rt staticlib lexer_dfa_c`
- * writes (x86-64).
+ * The functions stand in target/liblexer_dfa.a, which `./build` writes (x86-64).
  *
  * Every call takes all words, bytes and lengths and ends with its answer or with one numbered
  * refusal; there is nothing to check first. A list is passed as pointer and length. The pointer

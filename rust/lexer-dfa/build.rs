@@ -1,11 +1,11 @@
-//! Links the static library that `rt staticlib lexer_dfa_c` writes at the top of the repository.
+//! Links the static library that `./build` writes at the top of the repository.
 //! LEXER_DFA_LIB names another folder that has it, by a full path.
 
 use std::env;
 use std::path::{Path, PathBuf};
 
-const MADE_HERE: &str = "../../target/staticlib";
-const ARCHIVE: &str = "liblexer_dfa_c.a";
+const MADE_HERE: &str = "../../target";
+const ARCHIVE: &str = "liblexer_dfa.a";
 
 fn main() {
     println!("cargo::rerun-if-env-changed=LEXER_DFA_LIB");
@@ -19,12 +19,12 @@ fn main() {
     println!("cargo::rerun-if-changed={}", archive.display());
     if !archive.is_file() {
         println!(
-            "cargo::error={} is not there: run `rt staticlib lexer_dfa_c` at the top of the \
-             repository, or let LEXER_DFA_LIB name the folder that has {ARCHIVE}",
+            "cargo::error={} is not there: run `./build` at the top of the repository, or let \
+             LEXER_DFA_LIB name the folder that has {ARCHIVE}",
             archive.display()
         );
         return;
     }
     println!("cargo::rustc-link-search=native={}", folder.display());
-    println!("cargo::rustc-link-lib=static=lexer_dfa_c");
+    println!("cargo::rustc-link-lib=static=lexer_dfa");
 }

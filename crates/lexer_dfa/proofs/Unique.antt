@@ -36,7 +36,7 @@ use Rattle.room.proofs.fill.Reads as fill
 use Rattle.codec.proofs.decode.Reads as decode
 use Rattle.judge.proofs.table_in.Reads as table-in
 use Rattle.encode.proofs.encode.Reads as encode
-use Rattle.lexer_dfa.specs.Unique.{Determines, DeterminesPart, DeterminesBoth}
+use Rattle.unique.specs.Unique.{Determines, DeterminesPart, DeterminesBoth}
 
 -- ascii_range
 

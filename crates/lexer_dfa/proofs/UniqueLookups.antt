@@ -42,7 +42,7 @@ use Rattle.state_run.proofs.scan_ascii_run.Reads as scan-ascii-run
 use Rattle.state_run.proofs.scan_ascii_run_length.Reads as scan-ascii-run-length
 use Rattle.state_run.proofs.Laws as state-run
 use Rattle.ascii_run.proofs.Answers.{given}
-use Rattle.lexer_dfa.specs.Unique.{Determines, DeterminesPart, DeterminesBoth}
+use Rattle.unique.specs.Unique.{Determines, DeterminesPart, DeterminesBoth}
 
 -- room_read
 

@@ -1,4 +1,3 @@
 pub mod Demands
 pub mod RefusedBy
 pub mod Sheet
-pub mod Unique

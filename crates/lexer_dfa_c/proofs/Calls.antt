@@ -1,8 +1,10 @@
 -- What the C face answers follows from what the calls say. Assumes nothing.
 use Prim.Native.Nat.{ℕ}
 use native.Mathlib.Omega.{arith}
-use mathlib.Core.Path.{_≡_, _∙_, ap}
+use mathlib.Core.Path.{_≡_, _∙_, refl}
+use mathlib.Core.Bool.{Bool, true, false}
 use mathlib.Core.List.{List}
+use mir.Val.{boolByte}
 use borrow.Author.Needs.{needs}
 use Rattle.refusal.specs.declared.Refusal.{Refusal}
 use Rattle.refusal.specs.Said.{Said}
@@ -23,16 +25,9 @@ use Rattle.ascii_run.specs.Shape.{shapeOf, Got, run, refused, Gives}
 use Rattle.ascii_run.specs.Words.{wordsOf}
 use Rattle.ascii_run.specs.Scan.{bit, said, scanSaid}
 use Rattle.ascii_run.proofs.Answers.{given}
-use Rattle.codec.specs.declared.Decoded.{Decoded}
-use Rattle.codec.specs.declared.Decoded.the-variants as decoded
-use Rattle.encode.specs.declared.Encoded.{Encoded}
-use Rattle.encode.specs.declared.Encoded.the-variants as encoded
-use Rattle.encode.specs.Encode as encoding
-use Rattle.lexer_dfa_c.specs.declared.CListed.{CListed}
 use Rattle.lexer_dfa_c.specs.declared.CRun.{CRun}
 use Rattle.lexer_dfa_c.specs.declared.CScan.{CScan}
-use Rattle.lexer_dfa_c.specs.Answers.{classInC, wordsC, refusedRun, answeredInC, runInC, scanInC, refusedScan, scanGot, decodedInC}
-use Rattle.lexer_dfa_c.specs.Lookups.{listedInC}
+use Rattle.lexer_dfa_c.specs.Answers.{classInC, wordsC, refusedRun, answeredInC, runInC, scanInC, refusedScan, scanGot}
 
 -- a class's number, or its refusal
 module _ {a : RangeClass} (s : Said) where
@@ -54,13 +49,18 @@ pub run-in-c : {q : RunAnswer} {r : CRun} (g : Got) → Gives q g → r ≡ answ
 run-in-c (run x) h e = e ∙ (rw (given (run x) h))
 run-in-c (refused n p) h e = e ∙ (rw (given (refused n p) h))
 
+-- a flag is stored as its number
+byte-is-bit : (b : Bool) → boolByte b ≡ bit b
+byte-is-bit true = refl
+byte-is-bit false = refl
+
 -- how far a run went, or that there is none, or a refusal
 module _ {s : Scanned} where
   pub scan-none : s ≡ NoRun → refusedScan 0 0 ≡ scanInC (said s)
   scan-none e = rw e
 
-  pub scan-skipped : {x : AsciiRunScan} {n : ℕ} → s ≡ Skipped x → n ≡ bit (x .«found_exit») → record { number = 0; place = 0; ran = 1; bytes = x .bytes; «found_exit» = n } ≡ scanInC (said s)
-  scan-skipped e f = rw (e, f)
+  pub scan-skipped : {x : AsciiRunScan} → s ≡ Skipped x → record { number = 0; place = 0; ran = 1; bytes = x .bytes; «found_exit» = boolByte (x .«found_exit») } ≡ scanInC (said s)
+  scan-skipped {x} e = rw (e, byte-is-bit (x .«found_exit»))
 
 module _ (bs : List ℕ) {q : RunAnswer} where
   pub scan-run : (g : Got) (s : Scanned) {k : AsciiRun} {r : CScan} → Gives q g → q .answer ≡ Ran k → said s ≡ scanSaid (shapeOf k (q .ranges)) bs → r ≡ scanInC (said s) → r ≡ scanInC (scanGot g bs)
@@ -83,23 +83,4 @@ module _ (bs : List ℕ) {q : RunAnswer} where
       let m : x ≡ record { number = n; place = p } = cc in
       rw m
 
--- a table's counts, or its refusal
-module _ (x : Decoded) {a : Decoded} where
-  pub decoded-table : {m s n : ℕ} → a ≡ x → a ≡ decoded.Table m s n → record { number = 0; place = 0; modes = m; states = s; words = n } ≡ decodedInC x
-  decoded-table h e = rw (← h, e)
-
-  pub decoded-refused : {r : Refusal} → a ≡ x → a ≡ decoded.Refused r → record { number = r .number; place = r .place; modes = 0; states = 0; words = 0 } ≡ decodedInC x
-  decoded-refused h e = rw (← h, e)
-
--- how many words were written, or a refusal
-module _ {a : Encoded} where
-  pub encoded-words : {n : ℕ} → a ≡ encoded.Words n → record { number = 0; place = 0; length = n } ≡ listedInC (encoding.said a)
-  encoded-words e = rw e
-
-  pub encoded-refused : {r : Refusal} → a ≡ encoded.Refused r → record { number = r .number; place = r .place; length = 0 } ≡ listedInC (encoding.said a)
-  encoded-refused e = rw e
-
-  pub encoded-says : (x : Encoded) {r : CListed} → a ≡ x → r ≡ listedInC (encoding.said a) → r ≡ listedInC (encoding.said x)
-  encoded-says x h e = e ∙ ap (λ y. listedInC (encoding.said y)) h
-
-pub ruleset calling = (needs, decoded-table, decoded-refused, encoded-words, encoded-refused, encoded-says, class-number, class-refused, words-ran, words-refused, run-in-c, scan-none, scan-skipped, scan-run, scan-refused)
+pub ruleset calling = (needs, class-number, class-refused, words-ran, words-refused, run-in-c, scan-none, scan-skipped, scan-run, scan-refused)

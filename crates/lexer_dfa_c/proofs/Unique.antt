@@ -1,13 +1,12 @@
--- Each call of the C face determines its answer, since its contract is an equation for it. Assumes nothing.
+-- Each call of the C face about ranges and runs determines its answer, since its contract is an equation for it. Assumes nothing.
 use mathlib.Core.Path.{sym, _∙_}
 use Rattle.lexer_dfa_c.proofs.lexer_dfa_class_of_byte.Reads as class-of-byte
 use Rattle.lexer_dfa_c.proofs.lexer_dfa_class.Reads as class
 use Rattle.lexer_dfa_c.proofs.lexer_dfa_classify.Reads as classify
 use Rattle.lexer_dfa_c.proofs.lexer_dfa_read_run.Reads as read-run
+use Rattle.lexer_dfa_c.proofs.lexer_dfa_ascii_run.Reads as ascii-run
 use Rattle.lexer_dfa_c.proofs.lexer_dfa_scan.Reads as scan
-use Rattle.lexer_dfa_c.proofs.lexer_dfa_decode.Reads as decode
-use Rattle.lexer_dfa_c.proofs.lexer_dfa_encode.Reads as encode
-use Rattle.lexer_dfa.specs.Unique.{Determines, DeterminesBoth}
+use Rattle.unique.specs.Unique.{Determines}
 
 pub c-class-of-byte-unique : Determines class-of-byte.Learnt
 c-class-of-byte-unique κs a x y e f p q = p ∙ sym q
@@ -21,11 +20,8 @@ c-classify-unique κs a x y e f p q = p ∙ sym q
 pub c-read-run-unique : Determines read-run.Learnt
 c-read-run-unique κs a x y e f p q = p ∙ sym q
 
+pub c-ascii-run-unique : Determines ascii-run.Learnt
+c-ascii-run-unique κs a x y e f p q = p ∙ sym q
+
 pub c-scan-unique : Determines scan.Learnt
 c-scan-unique κs a x y e f p q = p ∙ sym q
-
-pub c-decode-unique : DeterminesBoth (λ κs e. e .1 .0) decode.Learnt
-c-decode-unique κs a x y e f p q = (p .0 ∙ sym (q .0), p .1 ∙ sym (q .1))
-
-pub c-encode-unique : DeterminesBoth (λ κs e. e .1 .0) encode.Learnt
-c-encode-unique κs a x y e f p q = (p .0 ∙ sym (q .0), p .1 ∙ sym (q .1))

@@ -10,10 +10,7 @@ use Rattle.ascii_run.specs.declared.RunWords.{RunWords}
 use Rattle.ascii_run.specs.Shape.{shape, Got, run, refused}
 use Rattle.ascii_run.specs.Words.{wordsOf, readAlone}
 use Rattle.ascii_run.specs.Scan.{scanSaid}
-use Rattle.codec.specs.declared.Decoded.{Decoded}
-use Rattle.codec.specs.declared.Decoded.the-variants as decoded
 use Rattle.lexer_dfa_c.specs.declared.CClass.{CClass}
-use Rattle.lexer_dfa_c.specs.declared.CDecoded.{CDecoded}
 use Rattle.lexer_dfa_c.specs.declared.CRun.{CRun}
 use Rattle.lexer_dfa_c.specs.declared.CScan.{CScan}
 
@@ -54,8 +51,3 @@ scanGot (refused n p) bs = no n p
 -- the scan by the run whose words these are; anything but one run's words is FIELD
 abbrev pub scanCall : List ℕ → List ℕ → Said
 scanCall w bs = scanGot (readAlone w) bs
-
--- a table's counts, or its refusal
-abbrev pub decodedInC : Decoded → CDecoded
-decodedInC (decoded.Table m s n) = record { number = 0; place = 0; modes = m; states = s; words = n }
-decodedInC (decoded.Refused r) = record { number = r .number; place = r .place; modes = 0; states = 0; words = 0 }

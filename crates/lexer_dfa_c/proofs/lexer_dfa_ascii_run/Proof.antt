@@ -1,5 +1,5 @@
 -- The answer in C is what the call says, case by case.
-use Rattle.lexer_dfa_c.proofs.LookupCalls.{looking}
+use Rattle.lexer_dfa_c.proofs.Calls.{calling}
 use Rattle.lexer_dfa_c.proofs.lexer_dfa_ascii_run.Statement.{statement}
 use Rattle.lexer_dfa_c.proofs.lexer_dfa_ascii_run.Tie as tie
 
@@ -7,6 +7,6 @@ pub lexer-dfa-ascii-run-spec : {M : Type 1} → statement M
 lexer-dfa-ascii-run-spec =
     tie.close
     (tie.spec
-    (λ c κs. search looking)
-    (λ c κs. search looking)
-    (λ c. search looking))
+    (λ c κs. search calling)
+    (λ c κs. search calling)
+    (λ c. search calling))
