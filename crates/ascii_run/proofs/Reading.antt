@@ -12,9 +12,10 @@ use Rattle.refusal.specs.Said.{SHORT, FIELD}
 use Rattle.refusal.specs.Lists.{pick, every}
 use Rattle.ascii_range.specs.declared.AsciiRanges.{AsciiRanges}
 use Rattle.ascii_range.specs.declared.PackedRanges.{PackedRanges}
-use Rattle.ascii_range.specs.Ranges.{rangesOfRun, packedOf}
+use Rattle.ascii_range.specs.Ranges.{noRanges, rangesOfRun, packedOf}
 use Rattle.ascii_run.specs.declared.AsciiRun.{AsciiRun}
 use Rattle.ascii_run.specs.declared.AsciiRun.the-variants.{None, Any, Until1, Until2, Until3, Ranges}
+use Rattle.ascii_run.specs.declared.Answered.{Answered}
 use Rattle.ascii_run.specs.declared.Answered.the-variants.{Ran}
 use Rattle.ascii_run.specs.declared.Run.{Run}
 use Rattle.ascii_run.specs.declared.RunAnswer.{RunAnswer}
@@ -23,16 +24,17 @@ use Rattle.ascii_run.specs.Shape.{until, plain, held, Got, run, refused,
 use Rattle.ascii_run.specs.Words.{orField, shortRun, kindOf, bytesOf, rangesRun, packedAt, readAt, sizeOf, aloneIn, readAlone, oneWord, wordsOf}
 use Rattle.ascii_run.proofs.Answers.{gives}
 
+-- a test of a run's bytes
+module _ (at : ℕ) (k : AsciiRun) {t : Bool} where
+  pub field-good : t ≡ true → Ran k ≡ answered (orField at t (plain k)) .answer
+  unfolding orField
+  field-good e = rw e
+
+  pub field-bad : {r : Answered} → r ≡ answered (refused FIELD at) .answer → t ≡ false → r ≡ answered (orField at t (plain k)) .answer
+  unfolding orField
+  field-bad h e = h ∙ (rw e)
+
 module _ {r : RunAnswer} where
-  -- a test of a run's bytes
-  pub field-good : (at : ℕ) (q : Run) {t : Bool} → r ≡ answered (run q) → t ≡ true → r ≡ answered (orField at t q)
-  unfolding orField
-  field-good at q h e = h ∙ (rw e)
-
-  pub field-bad : (at : ℕ) (q : Run) {t : Bool} → r ≡ answered (refused FIELD at) → t ≡ false → r ≡ answered (orField at t q)
-  unfolding orField
-  field-bad at q h e = h ∙ (rw e)
-
   -- the ranges of three words
   pub ranges-bad : (at : ℕ) (q : AsciiRanges) {p : AsciiRanges} → r ≡ answered (refused FIELD at) → p ≡ q → p .count ≡ 0 → r ≡ answered (rangesRun at q)
   unfolding rangesRun
@@ -43,32 +45,63 @@ unfolding rangesRun
 ranges-good at q e z = rw (ne-eqb (q .count) 0 (λ k. z (ap (λ (x : AsciiRanges). x .count) e ∙ k)), e)
 
 -- A run of one word, kind by kind.
-module _ (at word : ℕ) {r : RunAnswer} where
-  pub short-none : r ≡ answered (orField at (eqb (word / 256 % 256) 0 && eqb (word / 65536 % 256) 0 && eqb (word / 16777216) 0) (plain None)) → word % 256 ≡ 0 → r ≡ answered (shortRun at (kindOf word) (bytesOf word))
+module _ (at word : ℕ) {r : Answered} where
+  pub short-none : r ≡ answered (orField at (eqb (word / 256 % 256) 0 && eqb (word / 65536 % 256) 0 && eqb (word / 16777216) 0) (plain None)) .answer → word % 256 ≡ 0 → r ≡ answered (shortRun at (kindOf word) (bytesOf word)) .answer
   unfolding shortRun every held
   short-none h e = h ∙ (rw e (simp (and-true, and-assoc)))
 
-  pub short-any : r ≡ answered (orField at (eqb (word / 256 % 256) 0 && eqb (word / 65536 % 256) 0 && eqb (word / 16777216) 0) (plain Any)) → word % 256 ≡ 1 → r ≡ answered (shortRun at (kindOf word) (bytesOf word))
+  pub short-any : r ≡ answered (orField at (eqb (word / 256 % 256) 0 && eqb (word / 65536 % 256) 0 && eqb (word / 16777216) 0) (plain Any)) .answer → word % 256 ≡ 1 → r ≡ answered (shortRun at (kindOf word) (bytesOf word)) .answer
   unfolding shortRun every held
   short-any h e = h ∙ (rw e (simp (and-true, and-assoc)))
 
-  pub short-one : r ≡ answered (orField at (ltb (word / 256 % 256) 128 && eqb (word / 65536 % 256) 0 && eqb (word / 16777216) 0) (plain (Until1 (word / 256 % 256)))) → word % 256 ≡ 2 → r ≡ answered (shortRun at (kindOf word) (bytesOf word))
+  pub short-one : r ≡ answered (orField at (ltb (word / 256 % 256) 128 && eqb (word / 65536 % 256) 0 && eqb (word / 16777216) 0) (plain (Until1 (word / 256 % 256)))) .answer → word % 256 ≡ 2 → r ≡ answered (shortRun at (kindOf word) (bytesOf word)) .answer
   unfolding shortRun every held
   short-one h e = h ∙ (rw e (simp (and-true, and-assoc)))
 
-  pub short-two : r ≡ answered (orField at (ltb (word / 256 % 256) 128 && ltb (word / 65536 % 256) 128 && eqb (word / 16777216) 0) (plain (Until2 (word / 256 % 256) (word / 65536 % 256)))) → word % 256 ≡ 3 → r ≡ answered (shortRun at (kindOf word) (bytesOf word))
+  pub short-two : r ≡ answered (orField at (ltb (word / 256 % 256) 128 && ltb (word / 65536 % 256) 128 && eqb (word / 16777216) 0) (plain (Until2 (word / 256 % 256) (word / 65536 % 256)))) .answer → word % 256 ≡ 3 → r ≡ answered (shortRun at (kindOf word) (bytesOf word)) .answer
   unfolding shortRun every held
   short-two h e = h ∙ (rw e (simp (and-true, and-assoc)))
 
-  pub short-three : r ≡ answered (orField at (ltb (word / 256 % 256) 128 && ltb (word / 65536 % 256) 128 && ltb (word / 16777216) 128) (plain (Until3 (word / 256 % 256) (word / 65536 % 256) (word / 16777216)))) → word % 256 ≡ 4 → r ≡ answered (shortRun at (kindOf word) (bytesOf word))
+  pub short-three : r ≡ answered (orField at (ltb (word / 256 % 256) 128 && ltb (word / 65536 % 256) 128 && ltb (word / 16777216) 128) (plain (Until3 (word / 256 % 256) (word / 65536 % 256) (word / 16777216)))) .answer → word % 256 ≡ 4 → r ≡ answered (shortRun at (kindOf word) (bytesOf word)) .answer
   unfolding shortRun every held
   short-three h e = h ∙ (rw e (simp (and-true, and-assoc)))
 
-  pub short-other : r ≡ answered (refused FIELD at) → (word % 256 ≡ 0 → ⊥) → (word % 256 ≡ 1 → ⊥) → (word % 256 ≡ 2 → ⊥) → (word % 256 ≡ 3 → ⊥) → (word % 256 ≡ 4 → ⊥) → r ≡ answered (shortRun at (kindOf word) (bytesOf word))
+  pub short-other : r ≡ answered (refused FIELD at) .answer → (word % 256 ≡ 0 → ⊥) → (word % 256 ≡ 1 → ⊥) → (word % 256 ≡ 2 → ⊥) → (word % 256 ≡ 3 → ⊥) → (word % 256 ≡ 4 → ⊥) → r ≡ answered (shortRun at (kindOf word) (bytesOf word)) .answer
   unfolding shortRun
   short-other h n0 n1 n2 n3 n4 =
       let more : 4 < word % 256 = omega arith in
       h ∙ (rw (ne-eqb (word % 256) 0 n0, ne-eqb (word % 256) 1 n1, lt-leb (word % 256) 4 more))
+
+-- a run of one word has no ranges, so its kind is the whole answer
+by-pick : (P : Got → Type 0) (t : Bool) {x y : Got} → P x → P y → P (pick t x y)
+by-pick P true a b = a
+by-pick P false a b = b
+
+abbrev pub Bare : Got → Type 0
+Bare g = answered g .ranges ≡ noRanges
+
+bare-until : (es : List ℕ) → Bare (run (held (until es)))
+unfolding held
+bare-until [] = refl
+bare-until (a ∷ []) = refl
+bare-until (a ∷ b ∷ []) = refl
+bare-until (a ∷ b ∷ c ∷ []) = refl
+bare-until (a ∷ b ∷ c ∷ d ∷ es) = refl
+
+bare-field : (at : ℕ) (t : Bool) (q : Run) → q .ranges ≡ noRanges → Bare (orField at t q)
+unfolding orField
+bare-field at true q h = h
+bare-field at false q h = refl
+
+pub bare : (at kind : ℕ) (bytes : List ℕ) → Bare (shortRun at kind bytes)
+unfolding shortRun held
+bare at kind bytes =
+    by-pick Bare (eqb kind 0) (bare-field at _ (plain None) refl)
+    (by-pick Bare (eqb kind 1) (bare-field at _ (plain Any) refl)
+    (by-pick Bare (leb kind 4) {y = refused FIELD at} (bare-field at _ (held (until (take (kind - 1) bytes))) (bare-until (take (kind - 1) bytes))) refl))
+
+pub short-bare : (at word : ℕ) {a : Answered} {q : AsciiRanges} → a ≡ answered (shortRun at (kindOf word) (bytesOf word)) .answer → q ≡ noRanges → record { answer = a; ranges = q } ≡ answered (shortRun at (kindOf word) (bytesOf word))
+short-bare at word e f = rw (e, f, ← bare at (kindOf word) (bytesOf word))
 
 -- A run at a place.
 module _ (w : List ℕ) (at : ℕ) {r : RunAnswer} where
@@ -95,10 +128,6 @@ module _ (w : List ℕ) (at : ℕ) {r : RunAnswer} where
 abbrev Sized : ℕ → ℕ → Got → Type 0
 Sized n at (run q) = sizeOf (q .kind) ≡ n
 Sized n at (refused m p) = (m ≡ FIELD) × (p ≡ at)
-
-by-pick : (P : Got → Type 0) (t : Bool) {x y : Got} → P x → P y → P (pick t x y)
-by-pick P true a b = a
-by-pick P false a b = b
 
 until-size : (es : List ℕ) → sizeOf (held (until es) .kind) ≡ 1
 unfolding held
@@ -197,4 +226,4 @@ module _ {k : AsciiRun} (q : AsciiRanges) {r : RunWords} where
 pub words-ranges : {k : AsciiRun} (q : AsciiRanges) {p : PackedRanges} {x : ℕ} → p ≡ packedOf (q .ranges) → x ≡ q .count → k ≡ Ranges → record { length = 3; first = 5 + 256 * x; second = p .first; third = p .second } ≡ wordsOf k q
 words-ranges q f g e = rw (e, f, g)
 
-pub ruleset reading = (needs, field-good, field-bad, ranges-bad, ranges-good, short-none, short-any, short-one, short-two, short-three, short-other, read-end, read-short, read-cut, read-ranges, alone-short, alone-ranges, alone-none, words-none, words-any, words-one, words-two, words-three, words-ranges)
+pub ruleset reading = (needs, field-good, field-bad, ranges-bad, ranges-good, short-none, short-any, short-one, short-two, short-three, short-other, short-bare, read-end, read-short, read-cut, read-ranges, alone-short, alone-ranges, alone-none, words-none, words-any, words-one, words-two, words-three, words-ranges)

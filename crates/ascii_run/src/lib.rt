@@ -8,6 +8,7 @@ ghost use Rattle.refusal.specs.Lists.{before};
 ghost use Rattle.ascii_range.specs.Ranges.{noRanges, loopRanges, rangesOfRun};
 ghost use Rattle.ascii_run.specs.Shape.{Gives, shape, until, answered, refused, run, plain, held};
 ghost use Rattle.ascii_run.specs.Classify.{classified, byRanges};
+ghost use Rattle.refusal.specs.Said.{FIELD};
 ghost use Rattle.ascii_run.specs.Words.{readAt, readAlone, sizeOf, wordsOf, orField, shortRun, kindOf, bytesOf, rangesRun, oneWord};
 ghost use Rattle.ascii_run.specs.Scan.{stops, skipped, said, isNone, skippedSaid, scanSaid};
 use ascii_range::AsciiRange;
@@ -133,19 +134,28 @@ pub fn classify(row: &[u16], state: u16) -> RunAnswer
     by_ranges(row, state)
 }
 
-// The run where the test holds, else FIELD.
-fn or_field(good: bool, kind: AsciiRun, at: usize) -> RunAnswer
-    ensures { λ r. ⌜ r ≡ answered (orField at good (plain kind)) ⌝ }
+fn field(at: usize) -> Answered
+    ensures { λ r. ⌜ r ≡ answered (refused FIELD at) .answer ⌝ }
 {
-    if good {
-        return plain(kind);
-    }
-    refuse(FIELD, at)
+    Answered::Refused(Refusal {
+        number: FIELD,
+        place: at,
+    })
 }
 
-// A run of one word.
-fn read_short(word: u32, at: usize) -> RunAnswer
-    ensures { λ r. ⌜ r ≡ answered (shortRun at (kindOf word) (bytesOf word)) ⌝ }
+// The run where the test holds, else FIELD.
+fn or_field(good: bool, kind: AsciiRun, at: usize) -> Answered
+    ensures { λ r. ⌜ r ≡ answered (orField at good (plain kind)) .answer ⌝ }
+{
+    if good {
+        return Answered::Ran(kind);
+    }
+    field(at)
+}
+
+// The kind of a run of one word; it has no ranges. A scan that needs no more than this has no array to hand on.
+pub fn short_answer(word: u32, at: usize) -> Answered
+    ensures { λ r. ⌜ r ≡ answered (shortRun at (kindOf word) (bytesOf word)) .answer ⌝ }
 {
     let kind = word % 256;
     let a = word / 256 % 256;
@@ -178,7 +188,17 @@ fn read_short(word: u32, at: usize) -> RunAnswer
             at,
         );
     }
-    refuse(FIELD, at)
+    field(at)
+}
+
+// A run of one word.
+fn read_short(word: u32, at: usize) -> RunAnswer
+    ensures { λ r. ⌜ r ≡ answered (shortRun at (kindOf word) (bytesOf word)) ⌝ }
+{
+    RunAnswer {
+        answer: short_answer(word, at),
+        ranges: no_ranges(),
+    }
 }
 
 // A kind-5 run, whose three words are there.

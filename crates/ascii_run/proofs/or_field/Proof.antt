@@ -4,4 +4,4 @@ use Rattle.ascii_run.proofs.or_field.Statement.{statement}
 use Rattle.ascii_run.proofs.or_field.Tie as tie
 
 pub or-field-spec : {M : Type 1} → statement M
-or-field-spec = tie.close (tie.spec (λ c κs. search reading) (λ c. search reading) (λ c κs. search reading) (λ c. search reading))
+or-field-spec = tie.close (tie.spec (λ c. search reading) (λ c κs. search reading) (λ c. search reading))

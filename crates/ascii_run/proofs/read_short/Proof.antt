@@ -1,27 +1,7 @@
--- Each kind's bytes are tested as its definition tests them.
+-- The kind is the whole answer, since there are no ranges.
 use Rattle.ascii_run.proofs.Reading.{reading}
 use Rattle.ascii_run.proofs.read_short.Statement.{statement}
 use Rattle.ascii_run.proofs.read_short.Tie as tie
 
 pub read-short-spec : {M : Type 1} → statement M
-read-short-spec =
-    tie.close
-    (tie.spec
-    (λ c κs. search reading)
-    (λ c. search reading)
-    (λ c κs. search reading)
-    (λ c. search reading)
-    (λ c. search reading)
-    (λ c κs. search reading)
-    (λ c. search reading)
-    (λ c. search reading)
-    (λ c. search reading)
-    (λ c κs. search reading)
-    (λ c. search reading)
-    (λ c. search reading)
-    (λ c. search reading)
-    (λ c. search reading)
-    (λ c κs. search reading)
-    (λ c. search reading)
-    (λ c κs. search reading)
-    (λ c. search reading))
+read-short-spec = tie.close (tie.spec (λ c κs. search reading) (λ c κs. search reading) (λ c. search reading))
