@@ -13,6 +13,7 @@ use Rattle.ascii_run.proofs.classify.Reads as classify
 use Rattle.ascii_run.proofs.read_serialized.Reads as read-serialized
 use Rattle.ascii_run.proofs.serialized_words.Reads as serialized-words
 use Rattle.ascii_run.proofs.read_alone.Reads as read-alone
+use Rattle.ascii_run.proofs.short_answer.Reads as short-answer
 use Rattle.ascii_run.proofs.write_serialized.Reads as write-serialized
 use Rattle.ascii_run.proofs.scan.Reads as scan
 use Rattle.ascii_run.proofs.scan_length.Reads as scan-length
@@ -73,6 +74,9 @@ read-serialized-unique κs a x y e f p q = given _ p ∙ sym (given _ q)
 
 pub read-alone-unique : Determines read-alone.Learnt
 read-alone-unique κs a x y e f p q = given _ p ∙ sym (given _ q)
+
+pub short-answer-unique : Determines short-answer.Learnt
+short-answer-unique κs a x y e f p q = p ∙ sym q
 
 pub serialized-words-unique : Determines serialized-words.Learnt
 serialized-words-unique κs a x y e f p q = p ∙ sym q

@@ -1,3 +1,4 @@
 pub mod Front
 pub mod Taken
 pub mod Decimal
+pub mod Unique
