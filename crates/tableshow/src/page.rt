@@ -29,10 +29,10 @@ use crate::text::put_range;
 use crate::text::put_symbol;
 use crate::text::put_target;
 use crate::text::put_text;
-use lexer_dfa::AcceptRecord;
-use lexer_dfa::Accepted;
-use lexer_dfa::Continuation;
-use lexer_dfa::Start;
+use accepts::AcceptRecord;
+use accepts::Accepted;
+use continuations::Continuation;
+use modes::Start;
 use refusal::NONE;
 
 fn put_flag(flag: u32, page: &mut [u8], n: usize) -> usize
@@ -128,7 +128,7 @@ fn put_accepted(room: &[u32], accept: u32, page: &mut [u8], n: usize) -> usize
 {
     let behind_word = put_text(b": accept ", page, n);
     let behind_number = put_number(accept as u64, page, behind_word);
-    put_said(lexer_dfa::accept_record(room, accept), page, behind_number)
+    put_said(accepts::accept_record(room, accept), page, behind_number)
 }
 
 fn put_accept(room: &[u32], accept: u32, page: &mut [u8], n: usize) -> usize
@@ -154,7 +154,7 @@ fn accept_number(answer: Accepted) -> u32
 fn put_head(room: &[u32], state: u16, page: &mut [u8], n: usize) -> usize
     ensures { λ r. ⌜ Shown (headText (now (room .entry)) state) n (now (page .entry)) r (now (page .exit)) ⌝ }
 {
-    let accept = accept_number(lexer_dfa::accept(room, state));
+    let accept = accept_number(accepts::accept(room, state));
     let behind_word = put_text(b"\nstate ", page, n);
     let behind_number = put_number(state as u64, page, behind_word);
     put_accept(room, accept, page, behind_number)
@@ -287,14 +287,14 @@ fn continuation_number(continuation: Continuation) -> u32
 fn put_end_of(room: &[u32], state: u16, page: &mut [u8], n: usize) -> usize
     ensures { λ r. ⌜ Shown (endTarget (orElse 65535 (eofTarget (now (room .entry)) state))) n (now (page .entry)) r (now (page .exit)) ⌝ }
 {
-    let to = number_of(lexer_dfa::eof_target(room, state));
+    let to = number_of(targets::eof_target(room, state));
     put_end_target(to, page, n)
 }
 
 fn put_continuation_of(room: &[u32], state: u16, page: &mut [u8], n: usize) -> usize
     ensures { λ r. ⌜ Shown (endContinuation (orElse none (continued.eofContinuation (now (room .entry)) state))) n (now (page .entry)) r (now (page .exit)) ⌝ }
 {
-    let to = continuation_number(lexer_dfa::eof_continuation(room, state));
+    let to = continuation_number(continuations::eof_continuation(room, state));
     put_end_continuation(to, page, n)
 }
 
@@ -349,7 +349,7 @@ fn put_start(start: u32, page: &mut [u8], n: usize) -> usize
 pub(crate) fn put_mode(room: &[u32], mode: u32, page: &mut [u8], n: usize) -> usize
     ensures { λ r. ⌜ Shown (modeText (now (room .entry)) mode) n (now (page .entry)) r (now (page .exit)) ⌝ }
 {
-    let start = start_number(lexer_dfa::mode_start(room, mode));
+    let start = start_number(modes::mode_start(room, mode));
     let behind_word = put_text(b"mode ", page, n);
     let behind_number = put_number(mode as u64, page, behind_word);
     put_start(start, page, behind_number)

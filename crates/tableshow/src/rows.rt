@@ -10,7 +10,7 @@ use crate::text::put_line;
 use crate::text::put_range;
 use crate::text::put_target;
 use crate::text::put_text;
-use lexer_dfa::Target;
+use targets::Target;
 
 // What parts an item from the one before: `items` says how many stand on the line.
 fn put_gap(items: u32, page: &mut [u8], n: usize) -> usize
@@ -65,7 +65,7 @@ fn target_on(room: &[u32], state: u16, symbol: u32) -> u32
     ensures { λ r. ⌜ r ≡ targetOn (now (room .entry)) state symbol ⌝ }
 {
     if symbol < 128 {
-        return number_of(lexer_dfa::ascii_target(room, state, symbol as u8));
+        return number_of(targets::ascii_target(room, state, symbol as u8));
     }
     65535
 }

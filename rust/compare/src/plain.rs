@@ -8,6 +8,7 @@ pub mod lookup;
 mod read;
 mod rules;
 mod run;
+pub mod show;
 pub mod table;
 
 pub use decode::{decode, room};

@@ -1,4 +1,5 @@
-//! Holds the proved library to the original and to the plain reading of document 01.
+//! Holds the proved library to the original and to the plain reading of document 01, and the pages
+//! of the program `tableshow` to a plain rendering.
 //!
 //!     cargo test --release [-p compare] [-- WORD]
 //!
@@ -17,6 +18,7 @@ mod lookup;
 mod refusals;
 mod rooms;
 mod samples;
+mod show;
 mod tables;
 mod telling;
 
@@ -86,6 +88,8 @@ fn checks() -> Vec<(&'static str, Result<Check, String>)> {
         ("coverage: seeded tables, by the plain reading", Ok(coverage::seeded)),
         ("coverage: strange rooms, by the plain reading", Ok(coverage::strange)),
         ("samples: what stands in samples/", Ok(samples::are_written)),
+        ("show: pages of seeded tables, by plain rendering", program(show::seeded)),
+        ("show: pages of damaged inputs, by plain rendering", program(show::damaged)),
         ("record: the sample of replay, by the original", sample()),
     ]
 }
@@ -97,6 +101,14 @@ fn sample() -> Result<Check, String> {
         return Err("crates/replay/stdin is not there".to_string());
     }
     live!(sample::is_recorded)
+}
+
+/// A check that runs the program `tableshow`.
+fn program(check: Check) -> Result<Check, String> {
+    if !std::path::Path::new(show::PROGRAM).exists() {
+        return Err("target/bin/tableshow is not there (rt check tableshow)".to_string());
+    }
+    Ok(check)
 }
 
 fn main() {
