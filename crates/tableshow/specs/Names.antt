@@ -35,7 +35,7 @@ blank x = ifSame x 32 space (ifSame x 9 tab (ifSame x 10 newline (ifSame x 13 re
 abbrev pub symbol : ℕ → List ℕ
 symbol x = ifLess x 33 (blank x) (ifLess x 127 (quoted x) (hexed x))
 
--- what stands before the last four digits of a code point: no leading zeros
+-- what stands before the last four digits of a code point: nothing, one digit, two, or four (no code point has seven digits, but a range may reach that far)
 abbrev pub front : ℕ → List ℕ
 front x = ifLess x 1 [] (ifLess x 16 (hexDigit x ∷ []) (ifLess x 256 (two x) (four x)))
 
