@@ -1,10 +1,8 @@
--- The answers of lookups in C: a number of 0 and the value, or the refusal's number. Assumes nothing.
+-- The answers of lookups of a state in C: a number of 0 and the value, or the refusal's number. Assumes nothing.
 use Prim.Native.Nat.{ℕ}
 use lib.ListN.{getD}
 use Rattle.refusal.specs.Said.{Said, ok, no}
-use Rattle.refusal.specs.Fixed.{NONE}
 use Rattle.lookup_c.specs.declared.CValue.{CValue}
-use Rattle.lookup_c.specs.declared.CListed.{CListed}
 
 -- a value; a refusal, whose place is always 0 and left out
 abbrev pub answer : ℕ → CValue
@@ -13,12 +11,7 @@ answer v = record { value = v; number = 0 }
 abbrev pub refusal : ℕ → CValue
 refusal n = record { value = 0; number = n }
 
--- what a lookup says, with NONE for "no start"
+-- what a lookup says, which is one value
 abbrev pub valueInC : Said → CValue
-valueInC (ok l) = answer (getD l 0 NONE)
+valueInC (ok l) = answer (getD l 0 0)
 valueInC (no n p) = refusal n
-
--- how many numbers were written
-abbrev pub listedInC : Said → CListed
-listedInC (ok l) = record { number = 0; place = 0; length = getD l 0 0 }
-listedInC (no n p) = record { number = n; place = p; length = 0 }

@@ -1,7 +1,7 @@
 -- The answer in C is what the call says, case by case.
-use Rattle.lookup_c.proofs.Calls.{looking}
-use Rattle.lookup_c.proofs.lexer_dfa_compiled_mode_flags.Statement.{statement}
-use Rattle.lookup_c.proofs.lexer_dfa_compiled_mode_flags.Tie as tie
+use Rattle.mode_c.proofs.Calls.{looking}
+use Rattle.mode_c.proofs.lexer_dfa_compiled_mode_flags.Statement.{statement}
+use Rattle.mode_c.proofs.lexer_dfa_compiled_mode_flags.Tie as tie
 
 pub lexer-dfa-compiled-mode-flags-spec : {M : Type 1} → statement M
 lexer-dfa-compiled-mode-flags-spec =

@@ -1,7 +1,7 @@
 -- The answer in C is what the call says, case by case.
-use Rattle.lookup_c.proofs.Calls.{looking}
-use Rattle.lookup_c.proofs.lexer_dfa_mode_state_counts.Statement.{statement}
-use Rattle.lookup_c.proofs.lexer_dfa_mode_state_counts.Tie as tie
+use Rattle.mode_c.proofs.Calls.{looking}
+use Rattle.mode_c.proofs.lexer_dfa_mode_state_counts.Statement.{statement}
+use Rattle.mode_c.proofs.lexer_dfa_mode_state_counts.Tie as tie
 
 pub lexer-dfa-mode-state-counts-spec : {M : Type 1} → statement M
 lexer-dfa-mode-state-counts-spec =
