@@ -1,7 +1,7 @@
-//! The recorded sample: questions, and what the original answers. The program `replay` reads it
-//! from standard input and asks the proved functions the same.
+//! The recorded samples: questions, and what the original answers. The programs `replay` and
+//! `replay_lookups` read them from standard input and ask the proved functions the same.
 //!
-//! Records stand one after the other, numbers little-endian; all seeded, so that every run writes
+//! In that of `replay` records stand one after the other, numbers little-endian; all seeded, so that every run writes
 //! the same bytes.
 //!
 //! | record | fields |
@@ -15,14 +15,20 @@
 //! turn and add up what the sum is after each, all in 32 bits.
 
 mod decode;
+mod lookups;
 
 use crate::seeded::{Seeded, range_words};
 use oracle::AsciiRangeClass;
 
 const EACH: usize = 600;
 
+/// The programs, and the sample of each.
+pub fn all() -> [(&'static str, Vec<u8>); 2] {
+    [("replay", bytes()), ("replay_lookups", lookups::bytes())]
+}
+
 /// The whole sample. `replay` reads 65,536 bytes.
-pub fn bytes() -> Vec<u8> {
+fn bytes() -> Vec<u8> {
     let mut from = Seeded::new(1);
     let mut out = Vec::new();
     for _ in 0..EACH {
@@ -39,6 +45,16 @@ fn put_words(words: &[u32], out: &mut Vec<u8>) {
     for word in words {
         out.extend(word.to_le_bytes());
     }
+}
+
+/// The sum of the sums after each number, which tells numbers in another order apart.
+fn check(numbers: &[u32]) -> u32 {
+    let (mut sum, mut sums) = (0_u32, 0_u32);
+    for &number in numbers {
+        sum = sum.wrapping_add(number);
+        sums = sums.wrapping_add(sum);
+    }
+    sums
 }
 
 fn classify(from: &mut Seeded, out: &mut Vec<u8>) {

@@ -3,6 +3,7 @@
 pub mod broken;
 pub mod build;
 pub mod damage;
+pub mod symbols;
 mod write;
 
 pub use write::words;

@@ -1,15 +1,17 @@
-//! Writes the recorded sample for the program `replay`, to the path given or to
-//! ../crates/replay/stdin.
+//! Writes the recorded samples for the programs `replay` and `replay_lookups`, into the folder of
+//! crates given or into ../crates.
 //!
-//!     cargo run --release --bin record [PATH]
+//!     cargo run --release --bin record [CRATES]
 
 #[cfg(not(no_oracle))]
 fn main() -> std::io::Result<()> {
-    let path = std::env::args().nth(1);
-    let path = path.as_deref().unwrap_or("../crates/replay/stdin");
-    let bytes = compare::sample::bytes();
-    std::fs::write(path, &bytes)?;
-    println!("{} bytes written to {path}", bytes.len());
+    let crates = std::env::args().nth(1);
+    let crates = crates.as_deref().unwrap_or("../crates");
+    for (name, bytes) in compare::sample::all() {
+        let path = format!("{crates}/{name}/stdin");
+        std::fs::write(&path, &bytes)?;
+        println!("{} bytes written to {path}", bytes.len());
+    }
     Ok(())
 }
 

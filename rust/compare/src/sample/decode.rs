@@ -1,7 +1,7 @@
 //! Tables to decode: whole, damaged, and with each index rule broken. The original has no numbers
 //! and places of refusals, so these are the plain reading's; the original accepts the same tables.
 
-use super::put_words;
+use super::{check, put_words};
 use crate::plain::table::TAG;
 use crate::seeded::Seeded;
 use crate::tables::{broken, build, damage, words};
@@ -59,14 +59,4 @@ fn record(words: &[u32], out: &mut Vec<u8>) {
         answer.map_or((0, 0, 0), |decoded| (decoded.modes, decoded.states, decoded.words));
     out.extend([modes as u8, states as u8, length as u8]);
     out.extend(check(&plain::room(words, ROOM_NUMBERS)).to_le_bytes());
-}
-
-/// The sum of the sums after each number, which tells numbers in another order apart.
-fn check(room: &[u32]) -> u32 {
-    let (mut sum, mut sums) = (0_u32, 0_u32);
-    for &number in room {
-        sum = sum.wrapping_add(number);
-        sums = sums.wrapping_add(sum);
-    }
-    sums
 }

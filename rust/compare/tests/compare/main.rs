@@ -90,15 +90,20 @@ fn checks() -> Vec<(&'static str, Result<Check, String>)> {
         ("samples: what stands in samples/", Ok(samples::are_written)),
         ("show: pages of seeded tables, by plain rendering", program(show::seeded)),
         ("show: pages of damaged inputs, by plain rendering", program(show::damaged)),
-        ("record: the sample of replay, by the original", sample()),
+        ("record: the samples of replay, by the original", sample()),
     ]
 }
 
-const SAMPLE: &str = concat!(env!("CARGO_MANIFEST_DIR"), "/../../crates/replay/stdin");
+/// Where the sample of a program stands.
+fn sample_of(program: &str) -> String {
+    format!("{}/../../crates/{program}/stdin", env!("CARGO_MANIFEST_DIR"))
+}
 
 fn sample() -> Result<Check, String> {
-    if !std::path::Path::new(SAMPLE).exists() {
-        return Err("crates/replay/stdin is not there".to_string());
+    for program in ["replay", "replay_lookups"] {
+        if !std::path::Path::new(&sample_of(program)).exists() {
+            return Err(format!("crates/{program}/stdin is not there"));
+        }
     }
     live!(sample::is_recorded)
 }

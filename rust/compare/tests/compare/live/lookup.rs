@@ -1,7 +1,7 @@
 //! Lookups on the rooms of decoded tables, by the original.
 
 use compare::original;
-use compare::plain::table::{NONE, Range, Table};
+use compare::plain::table::{NONE, Table};
 use compare::seeded::Seeded;
 use compare::tables;
 use lexer_dfa::{AcceptRecord, Refusal};
@@ -88,29 +88,9 @@ fn records(ours: &Ours, theirs: &CompiledLexerDfa) {
     }
 }
 
-/// All symbols 0 to 300, the ends of every range of the state with their neighbours, the last code
-/// point and the number behind it, and negatives.
+/// All symbols 0 to 300, and those that tell.
 fn symbols(table: &Table, state: u16) -> Vec<i32> {
-    const OTHERS: [i32; 12] = [
-        0x10FFFE,
-        0x10FFFF,
-        0x110000,
-        0x110001,
-        -1,
-        -2,
-        -127,
-        -128,
-        -65536,
-        i32::MAX,
-        i32::MIN,
-        i32::MIN + 1,
-    ];
-    let near = |end: u32| [end.wrapping_sub(1), end, end.wrapping_add(1)];
-    let ends = |range: &Range| [near(range.low), near(range.high)].concat();
-    let wide = &table.wide_rows[table.states[usize::from(state)].wide_row as usize];
-    let escapes = &table.escape_rows[usize::from(state)].ranges;
-    let ends = wide.iter().chain(escapes).flat_map(ends).map(|end| end as i32);
-    (0..=300).chain(ends).chain(OTHERS).collect()
+    (0..=300).chain(tables::symbols::telling(table, state)).collect()
 }
 
 fn number(found: Option<usize>) -> Result<Option<u32>, Refusal> {

@@ -1,11 +1,13 @@
-//! The sample that stands in the repository is the one that `record` writes.
+//! The samples that stand in the repository are those that `record` writes.
 
 pub fn is_recorded() -> usize {
-    let stands = std::fs::read(crate::SAMPLE).expect("crates/replay/stdin can be read");
-    let written = compare::sample::bytes();
-    assert!(
-        stands == written,
-        "crates/replay/stdin is not what `cargo run --release --bin record` writes"
-    );
-    1
+    let all = compare::sample::all();
+    for (name, written) in &all {
+        let stands = std::fs::read(crate::sample_of(name)).expect("a sample can be read");
+        assert!(
+            stands == *written,
+            "crates/{name}/stdin is not what `cargo run --release --bin record` writes"
+        );
+    }
+    all.len()
 }

@@ -1,0 +1,55 @@
+// The records about what is written into an output: how many numbers, and a check over all of the output.
+use crate::Replayed;
+use crate::read;
+use encode::Encoded;
+use mode_counts::Listed;
+use refusal::MAX_WORDS;
+
+// A refusal is a length that no output has.
+const REFUSED: usize = 65535;
+
+// The sum of the sums after each number, which tells numbers in another order apart.
+fn check(out: &[u32]) -> u32 {
+    let mut sum = 0;
+    let mut sums = 0;
+    let mut i = 0;
+    while i < out.len() {
+        sum = std::num::wrapping_add_u32(sum, out[i]);
+        sums = std::num::wrapping_add_u32(sums, sum);
+        i += 1;
+    }
+    sums
+}
+
+fn listed(answer: Listed) -> usize {
+    match answer {
+        Listed::Numbers(n) => n,
+        Listed::Refused(_) => REFUSED,
+    }
+}
+
+fn encoded(answer: Encoded) -> usize {
+    match answer {
+        Encoded::Words(n) => n,
+        Encoded::Refused(_) => REFUSED,
+    }
+}
+
+fn write(room: &[u32], kind: u8, out: &mut [u32]) -> usize {
+    match kind {
+        11 => listed(mode_counts::compiled_mode_flags(room, out)),
+        12 => listed(mode_counts::mode_state_counts(room, out)),
+        _ => encoded(encode::encode(room, out)),
+    }
+}
+
+// No number of the output is 0 before, so that one which is left alone changes the check.
+pub fn replay_list(room: &[u32], record: &[u8]) -> Replayed {
+    let mut out = [1u32; MAX_WORDS];
+    let length = write(room, read::byte(record, 0), &mut out);
+    Replayed {
+        bytes: 7,
+        same: (length == read::size(read::after(record, 1)))
+            & (check(&out) == read::word(read::after(record, 3))),
+    }
+}
