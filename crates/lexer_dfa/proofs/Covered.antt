@@ -1,20 +1,16 @@
 -- Coverage on the room that decode leaves, by decode's own contract. Assumes nothing.
 use Prim.Native.Nat.{ℕ, _≤_}
-use native.Mathlib.Omega.{arith}
-use mathlib.Core.Path.{_≡_, refl, sym, ap, subst, _∙_}
+use mathlib.Core.Path.{_≡_, sym, ap, subst, _∙_}
 use mathlib.Core.Bool.{true}
 use mathlib.Core.List.{List, [], _∷_}
 use lib.ListN.{length}
 use denote.Ref.{RefT}
 use Rattle.refusal.specs.Said.{ok}
-use Rattle.room.specs.Room.{roomFor}
 use Rattle.codec.specs.declared.Decoded.{Decoded}
-use Rattle.codec.specs.declared.Decoded.the-variants as decoded
 use Rattle.codec.specs.Decode.{said}
 use Rattle.judge.specs.Judge.{accepted, isTable}
 use Rattle.table.specs.Table.{Table, wordsOf}
 use Rattle.table.specs.Whole.{Fit}
-use Rattle.table.specs.Places.{sectionsOf}
 use Rattle.roundtrip.specs.Trip.{Trip}
 use Rattle.roundtrip.proofs.RoundTrip.{round-trip}
 use Rattle.lookup_laws.proofs.Held.{Held, held}
@@ -22,11 +18,8 @@ use Rattle.coverage.specs.Coverage.{coverageOf}
 use Rattle.coverage.specs.OnTable.{coverageOn}
 use Rattle.coverage.proofs.Tables.{held-coverage}
 use Rattle.lexer_dfa.specs.Demands.{DecodeAnswers, Accepted}
-use Rattle.lexer_dfa.proofs.Decoding.{decode-accepts, accepted-room}
-
-says-accepted : (x : Decoded) {l : List ℕ} → said x ≡ ok l → accepted x ≡ true
-says-accepted (decoded.Table modes states words) e = refl
-says-accepted (decoded.Refused r) e = let z : _≡_ {A = ℕ} 0 1 = cc in absurd (omega arith)
+use Rattle.lexer_dfa.proofs.Decoding.{decode-accepts, table-room}
+use Rattle.lexer_dfa.proofs.RoundTrip.{said-accepted}
 
 -- where decode accepts, the words are those of a table, and coverage counts the points at which the table's state goes on
 pub decoded-coverage : (words room : RefT (List ℕ)) → Fit (words .now) → 16384 ≤ length (room .now) → (x : Decoded) (left : List ℕ) → DecodeAnswers words room x left →
@@ -36,8 +29,8 @@ decoded-coverage words room f enough x left d modes states count e =
     let a : Accepted (words .now) modes states count = decode-accepts words room f enough x left d modes states count .0 e in
     let t = a .table in
     let l = subst (λ v. length v ≤ 8192) (a .layout) (a .limit) in
-    let is : roomFor (wordsOf t) n (sectionsOf t) ≡ left = sym (accepted-room words room enough x left d modes states count a ∙ ap (λ v. roomFor v n (sectionsOf t)) (a .layout)) in
+    let is = table-room words room enough x left d modes states count a in
     let k : Held t left = subst (Held t) is (held t (a .fields) l n) in
-    let trip : Trip (words .now) n = round-trip (words .now) n f (ap accepted (sym (d .2 .0)) ∙ says-accepted x e) in
+    let trip : Trip (words .now) n = round-trip (words .now) n f (ap accepted (sym (d .2 .0)) ∙ said-accepted x e) in
     let h : isTable left ≡ true = subst (λ v. isTable v ≡ true) (sym (sym (d .3) ∙ d .2 .1)) (trip .held) in
     (t, a .layout, held-coverage t (a .fields) (a .rules) left k h)

@@ -260,3 +260,9 @@ refused-zero words room x left a number p e =
 pub accepted-room : (words room : RefT (List ℕ)) → 16384 ≤ length (room .now) → (x : Decoded) (left : List ℕ) → DecodeAnswers words room x left →
     (modes states count : ℕ) (t : Accepted (words .now) modes states count) → left ≡ roomFor (words .now) (length (room .now)) (sectionsOf (t .table))
 accepted-room words room enough x left a modes states count t = sym (a .3) ∙ a .2 .1 ∙ keeps-accepted (words .now) (length (room .now)) enough t
+
+-- the same over the table's own words
+pub table-room : (words room : RefT (List ℕ)) → 16384 ≤ length (room .now) → (x : Decoded) (left : List ℕ) → DecodeAnswers words room x left →
+    (modes states count : ℕ) (t : Accepted (words .now) modes states count) → roomFor (wordsOf (t .table)) (length (room .now)) (sectionsOf (t .table)) ≡ left
+table-room words room enough x left a modes states count t =
+    sym (accepted-room words room enough x left a modes states count t ∙ ap (λ v. roomFor v (length (room .now)) (sectionsOf (t .table))) (t .layout))

@@ -1,6 +1,6 @@
 -- Lookups on the room that decode leaves, by decode's own contract. Assumes nothing.
 use Prim.Native.Nat.{ℕ, _≤_, _<_}
-use mathlib.Core.Path.{_≡_, refl, sym, ap, subst, _∙_}
+use mathlib.Core.Path.{_≡_, refl, ap, subst, _∙_}
 use mathlib.Core.List.{List, [], _∷_}
 use lib.Dec.{ltb}
 use lib.ListN.{length}
@@ -17,20 +17,17 @@ use Rattle.state_run.specs.declared.StateScan.the-variants.{NoRun}
 use Rattle.state_run.specs.StateRun as scan
 use Rattle.state_run.specs.StateRun.{asciiRun, skippedBy, scannedBy}
 use Rattle.state_run.proofs.Laws.{said-one}
-use Rattle.room.specs.Room.{roomFor}
 use Rattle.codec.specs.declared.Decoded.{Decoded}
 use Rattle.codec.specs.Decode.{said}
-use Rattle.table.specs.Table.{wordsOf}
 use Rattle.table.specs.Rules.{rowOf}
 use Rattle.table.specs.Whole.{Fit}
-use Rattle.table.specs.Places.{sectionsOf}
 use Rattle.table.proofs.Classified.{state-row-long}
 use Rattle.lookup_laws.specs.Looks.{Looks}
 use Rattle.lookup_laws.specs.Never.{Never}
 use Rattle.lookup_laws.proofs.Rooms.{room-looks, room-never}
 use Rattle.lexer_dfa.specs.Demands.{DecodeAnswers, Accepted, AsciiOnly, LoopsOn, ScansLongest, stateTells, StateScanAnswers, StateScanLengthAnswers}
 use Rattle.lexer_dfa.proofs.Demand2.{run-is-longest}
-use Rattle.lexer_dfa.proofs.Decoding.{decode-accepts, accepted-room}
+use Rattle.lexer_dfa.proofs.Decoding.{decode-accepts, table-room}
 
 -- where decode accepts, lookups on the room give what the table says, and NOT-TABLE is "never met"
 pub decoded-looks : (words room : RefT (List ℕ)) → Fit (words .now) → 16384 ≤ length (room .now) → (x : Decoded) (left : List ℕ) → DecodeAnswers words room x left →
@@ -40,7 +37,7 @@ decoded-looks words room f enough x left d modes states count e =
     let a : Accepted (words .now) modes states count = decode-accepts words room f enough x left d modes states count .0 e in
     let t = a .table in
     let l = subst (λ v. length v ≤ 8192) (a .layout) (a .limit) in
-    let is : roomFor (wordsOf t) n (sectionsOf t) ≡ left = sym (accepted-room words room enough x left d modes states count a ∙ ap (λ v. roomFor v n (sectionsOf t)) (a .layout)) in
+    let is = table-room words room enough x left d modes states count a in
     (a, subst (Looks t) is (room-looks t (a .fields) (a .rules) l n), subst Never is (room-never t (a .fields) (a .rules) l n))
 
 none-said : (bs : List ℕ) → scanSaid none bs ≡ ok []

@@ -31,7 +31,7 @@ use Rattle.lexer_dfa.specs.Demands.{DecodeAnswers, EncodeAnswers, RoundT
 -- There and back
 
 -- an answer that says a table's counts is a table
-said-accepted : (x : Decoded) {l : List ℕ} → decoding.said x ≡ ok l → accepted x ≡ true
+pub said-accepted : (x : Decoded) {l : List ℕ} → decoding.said x ≡ ok l → accepted x ≡ true
 said-accepted (Table m s w) e = refl
 said-accepted (Refused r) e = let z : _≡_ {A = ℕ} 0 1 = cc in absurd (omega arith)
 
