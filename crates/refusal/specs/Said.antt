@@ -44,6 +44,10 @@ STATE = 8
 abbrev pub NOT-TABLE : ℕ
 NOT-TABLE = 9
 
--- compiled mode starts descend
+-- compiled mode starts descend; a set out of order
 abbrev pub ORDER : ℕ
 ORDER = 10
+
+-- targets or continuations differ in number from distinct masks
+abbrev pub TARGETS : ℕ
+TARGETS = 11
