@@ -1,4 +1,2 @@
-pub mod Loops
-pub mod Checks
-pub mod Scans
+pub mod Fields
 pub mod Maximal

@@ -1,30 +1,28 @@
 -- What the answers say, case by case, for the functions that make them. Assumes nothing.
-use Prim.Native.Nat.{ℕ, _≤_}
-use native.Mathlib.Omega.{arith}
+use Prim.Native.Nat.{ℕ}
 use mathlib.Core.Path.{_≡_, refl, ap, sym, _∙_}
-use mathlib.Core.Bool.{Bool, true, false, _&&_, and-false}
 use mathlib.Core.List.{List}
-use lib.Dec.{eqb, leb}
-use lib.ListN.{length, getD}
-use borrow.Author.Needs.{needs}
-use borrow.Author.Tests.{le-leb}
+use lib.Dec.{eqb}
+use lib.ListN.{getD}
 use Rattle.refusal.specs.Said.{Said, ok, no}
 use Rattle.refusal.specs.Lists.{pick}
-use Rattle.ascii_range.specs.declared.AsciiRange.{AsciiRange}
 use Rattle.ascii_range.specs.declared.AsciiRanges.{AsciiRanges}
-use Rattle.ascii_range.specs.Ranges.{upToFour}
+use Rattle.ascii_range.specs.Ranges.{noRanges}
 use Rattle.ascii_run.specs.declared.AsciiRun.{AsciiRun}
 use Rattle.ascii_run.specs.declared.AsciiRun.the-variants.{None, Any, Until1, Until2, Until3, Ranges}
 use Rattle.ascii_run.specs.declared.Answered.{Answered}
 use Rattle.ascii_run.specs.declared.Answered.the-variants.{Ran, Refused}
 use Rattle.ascii_run.specs.declared.RunAnswer.{RunAnswer}
-use Rattle.ascii_run.specs.Shape.{none, ranges, plain, held, Got, run, refused, said, answered, Gives}
-use Rattle.ascii_run.specs.Classify.{byRanges}
+use Rattle.ascii_run.specs.Shape.{Got, run, refused, said, answered, Gives}
 
 -- An answer is the one for what was got exactly when it says so, with the ranges beside it.
 pub gives : {r : RunAnswer} (g : Got) → r ≡ answered g → Gives r g
 gives (run q) e = record { says = rw e refl; beside = rw e refl }
 gives (refused n p) e = record { says = rw e refl; beside = rw e refl }
+
+-- a refusal has no ranges
+pub refuses : (n p : ℕ) {q : AsciiRanges} → q ≡ noRanges → record { answer = Refused (record { number = n; place = p }); ranges = q } ≡ answered (refused n p)
+refuses n p e = rw e
 
 -- `said` takes no two answers to one: what it says gives the answer back
 abbrev kindBack : List ℕ → AsciiRun
@@ -57,37 +55,3 @@ same r e f = rw (← e, ← f)
 pub given : {r : RunAnswer} (g : Got) → Gives r g → r ≡ answered g
 given {r} (run q) h = same r (said-one (r .answer) (Ran (q .kind)) (h .says)) (h .beside)
 given {r} (refused n p) h = same r (said-one (r .answer) (Refused (record { number = n; place = p })) (h .says)) (h .beside)
-
--- More than three exits: the ranges, or none.
-module _ (rs : List AsciiRange) where
-  count-few : leb (length rs) 4 ≡ true → upToFour rs .count ≡ length rs
-  unfolding upToFour
-  count-few e = rw e
-
-  count-many : leb (length rs) 4 ≡ false → upToFour rs .count ≡ 0
-  unfolding upToFour
-  count-many e = rw e
-
-  by-none : upToFour rs .count ≡ 0 → byRanges rs ≡ none
-  unfolding byRanges
-  by-none h = cases (leb (length rs) 4) refl where
-    cases : (b : Bool) → leb (length rs) 4 ≡ b → pick (leb 1 (length rs) && b) (ranges rs) none ≡ none
-    cases true e = let z : length rs ≡ 0 = omega (arith, count-few e) in rw z
-    cases false e = rw (and-false (leb 1 (length rs)))
-
-  by-some : (upToFour rs .count ≡ 0 → ⊥) → byRanges rs ≡ ranges rs
-  unfolding byRanges
-  by-some h = cases (leb (length rs) 4) refl where
-    cases : (b : Bool) → leb (length rs) 4 ≡ b → pick (leb 1 (length rs) && b) (ranges rs) none ≡ ranges rs
-    cases true e = let z : 1 ≤ length rs = omega (arith, count-few e, h) in rw (le-leb 1 (length rs) z)
-    cases false e = absurd (h (count-many e))
-
-  pub no-ranges : {q : AsciiRanges} {r : RunAnswer} → q ≡ upToFour rs → q .count ≡ 0 → r ≡ answered (run (plain None)) → r ≡ answered (run (held (byRanges rs)))
-  unfolding held
-  no-ranges e z f = f ∙ (rw (by-none (ap (λ (x : AsciiRanges). x .count) (sym e) ∙ z)))
-
-  pub some-ranges : {q : AsciiRanges} → q ≡ upToFour rs → (q .count ≡ 0 → ⊥) → record { answer = Ran Ranges; ranges = q } ≡ answered (run (held (byRanges rs)))
-  unfolding held
-  some-ranges e z = rw (by-some (λ k. z (ap (λ (x : AsciiRanges). x .count) e ∙ k)), e)
-
-pub ruleset answering = (needs, gives, no-ranges, some-ranges)

@@ -1,5 +1,5 @@
 -- The reading of a run's words, by the tests that the code makes in turn. `r` is the code's answer. Assumes nothing.
-use Prim.Native.Nat.{ℕ, _+_, _*_, _-_, _/_, _%_, _≤_, _<_}
+use Prim.Native.Nat.{ℕ, _+_, _-_, _/_, _%_, _≤_, _<_}
 use native.Mathlib.Omega.{arith}
 use mathlib.Core.Path.{_≡_, refl, ap, sym, _∙_}
 use mathlib.Core.Bool.{Bool, true, false, _&&_, and-true, and-assoc}
@@ -12,16 +12,15 @@ use Rattle.refusal.specs.Said.{SHORT, FIELD}
 use Rattle.refusal.specs.Lists.{pick, every}
 use Rattle.ascii_range.specs.declared.AsciiRanges.{AsciiRanges}
 use Rattle.ascii_range.specs.declared.PackedRanges.{PackedRanges}
-use Rattle.ascii_range.specs.Ranges.{noRanges, rangesOfRun, packedOf}
+use Rattle.ascii_range.specs.Ranges.{noRanges, rangesOfRun}
 use Rattle.ascii_run.specs.declared.AsciiRun.{AsciiRun}
 use Rattle.ascii_run.specs.declared.AsciiRun.the-variants.{None, Any, Until1, Until2, Until3, Ranges}
 use Rattle.ascii_run.specs.declared.Answered.{Answered}
 use Rattle.ascii_run.specs.declared.Answered.the-variants.{Ran}
 use Rattle.ascii_run.specs.declared.Run.{Run}
 use Rattle.ascii_run.specs.declared.RunAnswer.{RunAnswer}
-use Rattle.ascii_run.specs.declared.RunWords.{RunWords}
 use Rattle.ascii_run.specs.Shape.{until, plain, held, Got, run, refused, answered, Gives}
-use Rattle.ascii_run.specs.Words.{orField, shortRun, kindOf, bytesOf, rangesRun, packedAt, readAt, sizeOf, aloneIn, readAlone, oneWord, wordsOf}
+use Rattle.ascii_run.specs.Words.{orField, shortRun, kindOf, bytesOf, rangesRun, packedAt, readAt, sizeOf, aloneIn, readAlone}
 use Rattle.ascii_run.proofs.Answers.{gives}
 
 -- a test of a run's bytes
@@ -206,24 +205,4 @@ module _ (w : List ℕ) where
     pub alone-none : r ≡ answered (refused FIELD 0) → (length w ≡ 1 → ⊥) → (length w ≡ 3 → ⊥) → Gives r (readAlone w)
     alone-none h a b = gives _ (h ∙ ap answered (sym (none-alone a b)))
 
--- The words of a run, kind by kind.
-module _ {k : AsciiRun} (q : AsciiRanges) {r : RunWords} where
-  pub words-none : r ≡ oneWord 0 → k ≡ None → r ≡ wordsOf k q
-  words-none h e = h ∙ (rw e)
-
-  pub words-any : r ≡ oneWord 1 → k ≡ Any → r ≡ wordsOf k q
-  words-any h e = h ∙ (rw e)
-
-  pub words-one : {a x : ℕ} → r ≡ oneWord (2 + 256 * x) → x ≡ a → k ≡ Until1 a → r ≡ wordsOf k q
-  words-one h f e = h ∙ (rw (e, f))
-
-  pub words-two : {a b x y : ℕ} → r ≡ oneWord (3 + 256 * x + 65536 * y) → x ≡ a → y ≡ b → k ≡ Until2 a b → r ≡ wordsOf k q
-  words-two h f g e = h ∙ (rw (e, f, g))
-
-  pub words-three : {a b c x y z : ℕ} → r ≡ oneWord (4 + 256 * x + 65536 * y + 16777216 * z) → x ≡ a → y ≡ b → z ≡ c → k ≡ Until3 a b c → r ≡ wordsOf k q
-  words-three h f g i e = h ∙ (rw (e, f, g, i))
-
-pub words-ranges : {k : AsciiRun} (q : AsciiRanges) {p : PackedRanges} {x : ℕ} → p ≡ packedOf (q .ranges) → x ≡ q .count → k ≡ Ranges → record { length = 3; first = 5 + 256 * x; second = p .first; third = p .second } ≡ wordsOf k q
-words-ranges q f g e = rw (e, f, g)
-
-pub ruleset reading = (needs, field-good, field-bad, ranges-bad, ranges-good, short-none, short-any, short-one, short-two, short-three, short-other, short-bare, read-end, read-short, read-cut, read-ranges, alone-short, alone-ranges, alone-none, words-none, words-any, words-one, words-two, words-three, words-ranges)
+pub ruleset reading = (needs, field-good, field-bad, ranges-bad, ranges-good, short-none, short-any, short-one, short-two, short-three, short-other, short-bare, read-end, read-short, read-cut, read-ranges, alone-short, alone-ranges, alone-none)

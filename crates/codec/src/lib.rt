@@ -31,7 +31,7 @@ pub fn decode(words: &[u32], room: &mut [u32]) -> Decoded
             escape_rows,
             continuations,
         } => {
-            let rule = rules::first_broken(
+            let rule = index_rules::first_broken(
                 words,
                 modes,
                 states,

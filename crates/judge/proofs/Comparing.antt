@@ -11,7 +11,7 @@ use mir.Syntax.{w64}
 use mir.Val.{Fits}
 use borrow.Author.Needs.{needs}
 use borrow.Author.Tests.{ltb-true, lt-ltb, le-ltb, eq-eqb, ne-eqb}
-use lib.Dec.{ltb, eqb}
+use lib.Dec.{ltb, leb, eqb}
 use lib.ListN.{length, getD, drop-of-length-le}
 use lib.Seq.{drop-cons}
 use Rattle.refusal.specs.declared.Refusal.{Refusal}
@@ -29,7 +29,7 @@ use Rattle.room.specs.Room.{startsFrom, starts, each, shifted, placed, laterPla
 use Rattle.room.proofs.Writing.{was, run-limit, wide-limit, accept-limit, escape-limit, continuation-limit}
 use Rattle.room.proofs.Records.{inner-fits, accept-flag, config-flag, config-other, continuation-configs, continuation-count}
 use Rattle.room.proofs.Tables.{before-1, before-2, before-3, before-4}
-use Rattle.judge.specs.Standing.{standsAt, standing, emptyFrom, escapePlaces, widePlaces}
+use Rattle.judge.specs.Standing.{standsAt, fourStand, standing, plain, emptyFrom, escapePlaces, widePlaces}
 
 -- One number
 
@@ -54,6 +54,20 @@ pub next-fits : (x n : ℕ) (d : List ℕ) {ok : Bool} → ok ≡ standsAt x n d
 next-fits x n d e i l = let h : n < length d = stands-within x n d (sym e ∙ i) in omega arith
 
 pub ruleset standing-one = (needs, stands-past, stands-there)
+
+-- four, one behind the other
+pub stand-four : (a b c d n : ℕ) (l : List ℕ) {p q r s : Bool} → p ≡ standsAt (a + 9) n l → q ≡ standsAt (b + 9) (n + 1) l → r ≡ standsAt (c + 9) (n + 2) l
+    → s ≡ standsAt (d + 9) (n + 3) l → (((p && q) && r) && s) ≡ fourStand a b c d n l
+unfolding fourStand
+stand-four a b c d n l e f g h = rw (e, f, g, h)
+
+pub ruleset standing-four = (needs, stand-four)
+
+pub plain-test : (x : ℕ) {ok : Bool} → ok ≡ leb x 1 → ok ≡ plain x
+unfolding plain
+plain-test x e = e
+
+pub ruleset plain-one = (needs, plain-test)
 
 -- The places of records: g reads them
 

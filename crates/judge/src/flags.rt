@@ -30,7 +30,7 @@ fn accepts_are_plain(words: &[u32], at: usize) -> bool
     let mut here = at + 1;
     let mut left = words[at];
     while 0 < left {
-        match words::read_accept(words, here) {
+        match listed_words::read_accept(words, here) {
             Place::Next(p) => {
                 if accept_is_plain(words, here, p) {
                     here = p;
@@ -63,7 +63,7 @@ fn configs_are_plain(words: &[u32], at: usize) -> bool
     let mut here = at + 1;
     let mut left = words[at];
     while 0 < left {
-        match words::read_config(words, here) {
+        match listed_words::read_config(words, here) {
             Place::Next(p) => {
                 if config_is_plain(words, here, p) {
                     here = p;
@@ -104,7 +104,7 @@ fn continuations_are_plain(words: &[u32], at: usize) -> bool
     let mut here = at + 1;
     let mut left = words[at];
     while 0 < left {
-        match words::read_continuation(words, here) {
+        match continuation_words::read_continuation(words, here) {
             Place::Next(p) => {
                 if continuation_is_plain(words, here, p) {
                     here = p;

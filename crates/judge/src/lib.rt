@@ -105,7 +105,7 @@ fn is_sound(
     requires limit { ⌜ length (now words) ≤ 8192 ⌝ }
     ensures { λ r. ⌜ r ≡ sound (now (words .entry)) modes states runs «ascii_rows» «wide_rows» accepts «escape_rows» continuations (now (room .entry)) ⌝ }
 {
-    let rule = rules::first_broken(
+    let rule = index_rules::first_broken(
         words,
         modes,
         states,

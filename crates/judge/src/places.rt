@@ -74,7 +74,7 @@ fn run_places_stand(words: &[u32], at: usize, room: &[u32], n: usize) -> Place
     let mut left = words[at];
     let mut m = n;
     while 0 < left {
-        match words::read_run(words, here) {
+        match simple_words::read_run(words, here) {
             Place::Next(p) => {
                 if place_stands(here, room, m) {
                     here = p;
@@ -102,7 +102,7 @@ fn wide_row_places_stand(words: &[u32], at: usize, room: &[u32], n: usize) -> Pl
     let mut left = words[at];
     let mut m = n;
     while 0 < left {
-        match words::read_wide_row(words, here) {
+        match listed_words::read_wide_row(words, here) {
             Place::Next(p) => {
                 if place_stands(here, room, m) {
                     here = p;
@@ -130,7 +130,7 @@ fn accept_places_stand(words: &[u32], at: usize, room: &[u32], n: usize) -> Plac
     let mut left = words[at];
     let mut m = n;
     while 0 < left {
-        match words::read_accept(words, here) {
+        match listed_words::read_accept(words, here) {
             Place::Next(p) => {
                 if place_stands(here, room, m) {
                     here = p;
@@ -158,7 +158,7 @@ fn escape_row_places_stand(words: &[u32], at: usize, room: &[u32], n: usize) -> 
     let mut left = words[at];
     let mut m = n;
     while 0 < left {
-        match words::read_escape_row(words, here) {
+        match listed_words::read_escape_row(words, here) {
             Place::Next(p) => {
                 if place_stands(here, room, m) {
                     here = p;
@@ -186,7 +186,7 @@ fn continuation_places_stand(words: &[u32], at: usize, room: &[u32], n: usize) -
     let mut left = words[at];
     let mut m = n;
     while 0 < left {
-        match words::read_continuation(words, here) {
+        match continuation_words::read_continuation(words, here) {
             Place::Next(p) => {
                 if place_stands(here, room, m) {
                     here = p;

@@ -11,7 +11,7 @@ fn modes(words: &[u32], count: u32, at: usize) -> Place
     let mut left = count;
     let mut here = at;
     while 0 < left {
-        match words::read_mode(words, here) {
+        match simple_words::read_mode(words, here) {
             Place::Next(p) => {
                 here = p;
                 left -= 1;
@@ -41,7 +41,7 @@ fn states(words: &[u32], count: u32, at: usize) -> Place
     let mut left = count;
     let mut here = at;
     while 0 < left {
-        match words::read_state(words, here) {
+        match simple_words::read_state(words, here) {
             Place::Next(p) => {
                 here = p;
                 left -= 1;
@@ -71,7 +71,7 @@ fn runs(words: &[u32], count: u32, at: usize) -> Place
     let mut left = count;
     let mut here = at;
     while 0 < left {
-        match words::read_run(words, here) {
+        match simple_words::read_run(words, here) {
             Place::Next(p) => {
                 here = p;
                 left -= 1;
@@ -101,7 +101,7 @@ fn ascii_rows(words: &[u32], count: u32, at: usize) -> Place
     let mut left = count;
     let mut here = at;
     while 0 < left {
-        match words::read_ascii_row(words, here) {
+        match simple_words::read_ascii_row(words, here) {
             Place::Next(p) => {
                 here = p;
                 left -= 1;
@@ -131,7 +131,7 @@ fn wide_rows(words: &[u32], count: u32, at: usize) -> Place
     let mut left = count;
     let mut here = at;
     while 0 < left {
-        match words::read_wide_row(words, here) {
+        match listed_words::read_wide_row(words, here) {
             Place::Next(p) => {
                 here = p;
                 left -= 1;
@@ -161,7 +161,7 @@ fn accepts(words: &[u32], count: u32, at: usize) -> Place
     let mut left = count;
     let mut here = at;
     while 0 < left {
-        match words::read_accept(words, here) {
+        match listed_words::read_accept(words, here) {
             Place::Next(p) => {
                 here = p;
                 left -= 1;
@@ -191,7 +191,7 @@ fn escape_rows(words: &[u32], count: u32, at: usize) -> Place
     let mut left = count;
     let mut here = at;
     while 0 < left {
-        match words::read_escape_row(words, here) {
+        match listed_words::read_escape_row(words, here) {
             Place::Next(p) => {
                 here = p;
                 left -= 1;
@@ -221,7 +221,7 @@ fn continuations(words: &[u32], count: u32, at: usize) -> Place
     let mut left = count;
     let mut here = at;
     while 0 < left {
-        match words::read_continuation(words, here) {
+        match continuation_words::read_continuation(words, here) {
             Place::Next(p) => {
                 here = p;
                 left -= 1;

@@ -22,8 +22,8 @@ use Rattle.ascii_run.specs.declared.Scanned.{Scanned}
 use Rattle.ascii_run.specs.Shape.{none}
 use Rattle.ascii_run.specs.Classify.{exitsFrom, classification}
 use Rattle.ascii_run.specs.Scan.{stops, skipped}
-use Rattle.ascii_run.proofs.Described.{exits-hold, exits-ascend, gives-any, gives-until, gives-ranges, gives-none, classification-stops, run-said, ran-row, ran-shape, ran-some}
-use Rattle.ascii_run.proofs.ScanSaid.{scanned-one}
+use Rattle.run_classify.proofs.Described.{exits-hold, exits-ascend, gives-any, gives-until, gives-ranges, gives-none, classification-stops, run-said, ran-row, ran-shape, ran-some}
+use Rattle.run_scan.proofs.ScanSaid.{scanned-one}
 use Rattle.lexer_dfa.specs.Demands.{AsciiOnly, LoopsOn, Longest, ScansLongest, runTells, ClassifyAnswers, ScanAnswers, ScanLengthAnswers, Described}
 
 -- Classification.

@@ -11,7 +11,7 @@ use Rattle.refusal.specs.Lists.{pick}
 use Rattle.ascii_run.specs.Shape.{none}
 use Rattle.ascii_run.specs.Classify.{classification}
 use Rattle.ascii_run.specs.Scan.{skipped, scanSaid}
-use Rattle.ascii_run.proofs.Described.{run-said}
+use Rattle.run_classify.proofs.Described.{run-said}
 use Rattle.state_run.specs.declared.StateScan.{StateScan}
 use Rattle.state_run.specs.declared.StateScan.the-variants.{NoRun}
 use Rattle.state_run.specs.StateRun as scan

@@ -1,36 +1,52 @@
 -- Each public call's contract determines its answer, and what it leaves in a slice that it is lent. For it is an equation for the answer, or for what
 -- the answer says, and no two answers say one thing; and one for the list in the slice. Assumes nothing.
 use mathlib.Core.Path.{refl, sym, ap, _∙_}
-use Rattle.ascii_range.proofs.next_exit.Reads as next-exit
-use Rattle.ascii_range.proofs.from_self_loops.Reads as from-self-loops
-use Rattle.ascii_range.proofs.from_run.Reads as from-run
-use Rattle.ascii_range.proofs.packed_words.Reads as packed-words
-use Rattle.ascii_range.proofs.scan_scalar.Reads as scan-scalar
+use Rattle.ascii_range.proofs.none.Reads as none
+use Rattle.range_words.proofs.from_run.Reads as from-run
+use Rattle.range_words.proofs.packed_words.Reads as packed-words
+use Rattle.range_scan.proofs.scan_scalar.Reads as scan-scalar
+use Rattle.self_loops.proofs.next_exit.Reads as next-exit
+use Rattle.self_loops.proofs.from_self_loops.Reads as from-self-loops
 use Rattle.range_class.proofs.class_of_byte.Reads as class-of-byte
 use Rattle.range_class.proofs.class.Reads as class
 use Rattle.range_class.proofs.Classes.{byte-one, said-one}
-use Rattle.ascii_run.proofs.classify.Reads as classify
-use Rattle.ascii_run.proofs.read_serialized.Reads as read-serialized
+use Rattle.ascii_run.proofs.refuse.Reads as refuse
 use Rattle.ascii_run.proofs.serialized_words.Reads as serialized-words
-use Rattle.ascii_run.proofs.read_alone.Reads as read-alone
-use Rattle.ascii_run.proofs.short_answer.Reads as short-answer
-use Rattle.ascii_run.proofs.write_serialized.Reads as write-serialized
-use Rattle.ascii_run.proofs.scan.Reads as scan
-use Rattle.ascii_run.proofs.scan_length.Reads as scan-length
 use Rattle.ascii_run.proofs.Answers.{given}
-use Rattle.ascii_run.proofs.ScanSaid.{scanned-one}
+use Rattle.run_read.proofs.read_serialized.Reads as read-serialized
+use Rattle.run_read.proofs.read_alone.Reads as read-alone
+use Rattle.run_read.proofs.short_answer.Reads as short-answer
+use Rattle.run_write.proofs.write_serialized.Reads as write-serialized
+use Rattle.run_classify.proofs.classify.Reads as classify
+use Rattle.run_scan.proofs.scan.Reads as scan
+use Rattle.run_scan.proofs.scan_length.Reads as scan-length
+use Rattle.run_scan.proofs.ScanSaid.{scanned-one}
 use Rattle.words.proofs.short.Reads as short
-use Rattle.words.proofs.read_mode.Reads as read-mode
-use Rattle.words.proofs.read_state.Reads as read-state
-use Rattle.words.proofs.read_run.Reads as read-run
-use Rattle.words.proofs.read_ascii_row.Reads as read-ascii-row
-use Rattle.words.proofs.read_wide_row.Reads as read-wide-row
-use Rattle.words.proofs.read_accept.Reads as read-accept
-use Rattle.words.proofs.read_escape_row.Reads as read-escape-row
-use Rattle.words.proofs.read_continuation.Reads as read-continuation
-use Rattle.words.proofs.read_config.Reads as read-config
+use Rattle.words.proofs.field.Reads as field
+use Rattle.words.proofs.left_from.Reads as left-from
+use Rattle.simple_words.proofs.read_mode.Reads as read-mode
+use Rattle.simple_words.proofs.read_state.Reads as read-state
+use Rattle.simple_words.proofs.read_run.Reads as read-run
+use Rattle.simple_words.proofs.read_ascii_row.Reads as read-ascii-row
+use Rattle.listed_words.proofs.read_wide_row.Reads as read-wide-row
+use Rattle.listed_words.proofs.read_accept.Reads as read-accept
+use Rattle.listed_words.proofs.read_escape_row.Reads as read-escape-row
+use Rattle.listed_words.proofs.read_config.Reads as read-config
+use Rattle.continuation_words.proofs.read_continuation.Reads as read-continuation
 use Rattle.layout.proofs.find_sections.Reads as find-sections
-use Rattle.rules.proofs.first_broken.Reads as first-broken
+use Rattle.rules.proofs.word_at.Reads as word-at
+use Rattle.rules.proofs.word_past.Reads as word-past
+use Rattle.rules.proofs.good.Reads as good
+use Rattle.rules.proofs.none_or.Reads as none-or
+use Rattle.rules.proofs.present.Reads as present
+use Rattle.rule_states.proofs.mode_starts_are_states.Reads as mode-starts-are-states
+use Rattle.rule_states.proofs.states_are_valid.Reads as states-are-valid
+use Rattle.rule_runs.proofs.runs_are_classified.Reads as runs-are-classified
+use Rattle.rule_ascii.proofs.ascii_targets_are_good.Reads as ascii-targets-are-good
+use Rattle.rule_ranges.proofs.wide_rows_are_searchable.Reads as wide-rows-are-searchable
+use Rattle.rule_ranges.proofs.escape_rows_are_valid.Reads as escape-rows-are-valid
+use Rattle.rule_contexts.proofs.continuation_contexts_are_valid.Reads as continuation-contexts-are-valid
+use Rattle.index_rules.proofs.first_broken.Reads as first-broken
 use Rattle.room.specs.Room.{roomFor}
 use Rattle.written.proofs.clear.Reads as clear
 use Rattle.room.proofs.fill.Reads as fill
@@ -41,11 +57,10 @@ use Rattle.unique.specs.Unique.{Determines, DeterminesPart, DeterminesBoth}
 
 -- ascii_range
 
-pub next-exit-unique : Determines next-exit.Learnt
-next-exit-unique κs a x y e f p q = p ∙ sym q
+pub none-unique : Determines none.Learnt
+none-unique κs a x y e f p q = p ∙ sym q
 
-pub from-self-loops-unique : Determines from-self-loops.Learnt
-from-self-loops-unique κs a x y e f p q = p ∙ sym q
+-- range_words
 
 pub from-run-unique : Determines from-run.Learnt
 from-run-unique κs a x y e f p q = p ∙ sym q
@@ -53,8 +68,18 @@ from-run-unique κs a x y e f p q = p ∙ sym q
 pub packed-words-unique : Determines packed-words.Learnt
 packed-words-unique κs a x y e f p q = p ∙ sym q
 
+-- range_scan
+
 pub scan-scalar-unique : Determines scan-scalar.Learnt
 scan-scalar-unique κs a x y e f p q = p ∙ sym q
+
+-- self_loops
+
+pub next-exit-unique : Determines next-exit.Learnt
+next-exit-unique κs a x y e f p q = p ∙ sym q
+
+pub from-self-loops-unique : Determines from-self-loops.Learnt
+from-self-loops-unique κs a x y e f p q = p ∙ sym q
 
 -- range_class
 
@@ -66,8 +91,13 @@ class-unique κs a x y e f p q = said-one x y (p ∙ sym q)
 
 -- ascii_run
 
-pub classify-unique : Determines classify.Learnt
-classify-unique κs a x y e f p q = given _ p ∙ sym (given _ q)
+pub refuse-unique : Determines refuse.Learnt
+refuse-unique κs a x y e f p q = p ∙ sym q
+
+pub serialized-words-unique : Determines serialized-words.Learnt
+serialized-words-unique κs a x y e f p q = p ∙ sym q
+
+-- run_read
 
 pub read-serialized-unique : Determines read-serialized.Learnt
 read-serialized-unique κs a x y e f p q = given _ p ∙ sym (given _ q)
@@ -78,11 +108,17 @@ read-alone-unique κs a x y e f p q = given _ p ∙ sym (given _ q)
 pub short-answer-unique : Determines short-answer.Learnt
 short-answer-unique κs a x y e f p q = p ∙ sym q
 
-pub serialized-words-unique : Determines serialized-words.Learnt
-serialized-words-unique κs a x y e f p q = p ∙ sym q
+-- run_write
 
 pub write-serialized-unique : Determines write-serialized.Learnt
 write-serialized-unique κs a x y e f p q = p ∙ sym q
+
+-- run_classify
+
+pub classify-unique : Determines classify.Learnt
+classify-unique κs a x y e f p q = given _ p ∙ sym (given _ q)
+
+-- run_scan
 
 pub scan-unique : DeterminesPart scan.Learnt
 scan-unique κs a x y e f p q = (p .1 ∙ sym (q .1), p .0 ∙ sym (q .0))
@@ -94,6 +130,14 @@ scan-length-unique κs a x y e f p q = scanned-one x y (p ∙ sym q)
 
 pub short-unique : Determines short.Learnt
 short-unique κs a x y e f p q = p ∙ sym q
+
+pub field-unique : Determines field.Learnt
+field-unique κs a x y e f p q = p ∙ sym q
+
+pub left-from-unique : Determines left-from.Learnt
+left-from-unique κs a x y e f p q = p ∙ sym q
+
+-- simple_words
 
 pub read-mode-unique : Determines read-mode.Learnt
 read-mode-unique κs a x y e f p q = p ∙ sym q
@@ -107,6 +151,8 @@ read-run-unique κs a x y e f p q = p ∙ sym q
 pub read-ascii-row-unique : Determines read-ascii-row.Learnt
 read-ascii-row-unique κs a x y e f p q = p ∙ sym q
 
+-- listed_words
+
 pub read-wide-row-unique : Determines read-wide-row.Learnt
 read-wide-row-unique κs a x y e f p q = p ∙ sym q
 
@@ -116,11 +162,13 @@ read-accept-unique κs a x y e f p q = p ∙ sym q
 pub read-escape-row-unique : Determines read-escape-row.Learnt
 read-escape-row-unique κs a x y e f p q = p ∙ sym q
 
-pub read-continuation-unique : Determines read-continuation.Learnt
-read-continuation-unique κs a x y e f p q = p ∙ sym q
-
 pub read-config-unique : Determines read-config.Learnt
 read-config-unique κs a x y e f p q = p ∙ sym q
+
+-- continuation_words
+
+pub read-continuation-unique : Determines read-continuation.Learnt
+read-continuation-unique κs a x y e f p q = p ∙ sym q
 
 -- layout
 
@@ -128,6 +176,54 @@ pub find-sections-unique : Determines find-sections.Learnt
 find-sections-unique κs a x y e f p q = p ∙ sym q
 
 -- rules
+
+pub word-at-unique : Determines word-at.Learnt
+word-at-unique κs a x y e f p q = p ∙ sym q
+
+pub word-past-unique : Determines word-past.Learnt
+word-past-unique κs a x y e f p q = p ∙ sym q
+
+pub good-unique : Determines good.Learnt
+good-unique κs a x y e f p q = p ∙ sym q
+
+pub none-or-unique : Determines none-or.Learnt
+none-or-unique κs a x y e f p q = p ∙ sym q
+
+pub present-unique : Determines present.Learnt
+present-unique κs a x y e f p q = p ∙ sym q
+
+-- rule_states
+
+pub mode-starts-are-states-unique : Determines mode-starts-are-states.Learnt
+mode-starts-are-states-unique κs a x y e f p q = p ∙ sym q
+
+pub states-are-valid-unique : Determines states-are-valid.Learnt
+states-are-valid-unique κs a x y e f p q = p ∙ sym q
+
+-- rule_runs
+
+pub runs-are-classified-unique : Determines runs-are-classified.Learnt
+runs-are-classified-unique κs a x y e f p q = p ∙ sym q
+
+-- rule_ascii
+
+pub ascii-targets-are-good-unique : Determines ascii-targets-are-good.Learnt
+ascii-targets-are-good-unique κs a x y e f p q = p ∙ sym q
+
+-- rule_ranges
+
+pub wide-rows-are-searchable-unique : Determines wide-rows-are-searchable.Learnt
+wide-rows-are-searchable-unique κs a x y e f p q = p ∙ sym q
+
+pub escape-rows-are-valid-unique : Determines escape-rows-are-valid.Learnt
+escape-rows-are-valid-unique κs a x y e f p q = p ∙ sym q
+
+-- rule_contexts
+
+pub continuation-contexts-are-valid-unique : Determines continuation-contexts-are-valid.Learnt
+continuation-contexts-are-valid-unique κs a x y e f p q = p ∙ sym q
+
+-- index_rules
 
 pub first-broken-unique : Determines first-broken.Learnt
 first-broken-unique κs a x y e f p q = p ∙ sym q

@@ -20,9 +20,9 @@ use Rattle.ascii_run.specs.declared.Scanned.the-variants.{Skipped}
 use Rattle.ascii_run.specs.Shape.{Shape, none, any, until, ranges}
 use Rattle.state_run.specs.declared.StateScan.{StateScan}
 use Rattle.state_run.specs.declared.StateScan.the-variants as state
-use Rattle.ascii_run.proofs.classify.Reads as classify
-use Rattle.ascii_run.proofs.scan.Reads as scan
-use Rattle.ascii_run.proofs.scan_length.Reads as scan-length
+use Rattle.run_classify.proofs.classify.Reads as classify
+use Rattle.run_scan.proofs.scan.Reads as scan
+use Rattle.run_scan.proofs.scan_length.Reads as scan-length
 use Rattle.state_run.proofs.scan_ascii_run.Reads as scan-ascii-run
 use Rattle.state_run.proofs.scan_ascii_run_length.Reads as scan-ascii-run-length
 use Rattle.table.specs.Table.{Table, wordsOf, Fields}

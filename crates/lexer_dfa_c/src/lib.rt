@@ -106,7 +106,7 @@ fn words_in_c(read: RunAnswer) -> CRun
     match answer {
         Answered::Ran(kind) => {
             let ranges = read.ranges;
-            let words = ascii_run::write_serialized(Run { kind, ranges });
+            let words = run_write::write_serialized(Run { kind, ranges });
             CRun {
                 number: 0,
                 place: 0,
@@ -132,7 +132,7 @@ fn words_in_c(read: RunAnswer) -> CRun
 pub extern "C" fn lexer_dfa_classify(row: &[u16], state: u16) -> CRun
     ensures { λ r. ⌜ r ≡ runInC (classified state (now (row .entry))) ⌝ }
 {
-    words_in_c(ascii_run::classify(row, state))
+    words_in_c(run_classify::classify(row, state))
 }
 
 // The run that stands at a word.
@@ -140,7 +140,7 @@ pub extern "C" fn lexer_dfa_classify(row: &[u16], state: u16) -> CRun
 pub extern "C" fn lexer_dfa_read_run(words: &[u32], at: usize) -> CRun
     ensures { λ r. ⌜ r ≡ runInC (readAt (now (words .entry)) at) ⌝ }
 {
-    words_in_c(ascii_run::read_serialized(words, at))
+    words_in_c(run_read::read_serialized(words, at))
 }
 
 // The run of a state.
@@ -177,12 +177,12 @@ fn said_in_c(scanned: Scanned) -> CScan
 pub extern "C" fn lexer_dfa_scan(words: &[u32], input: &[u8]) -> CScan
     ensures { λ r. ⌜ r ≡ scanInC (scanCall (now (words .entry)) (now (input .entry))) ⌝ }
 {
-    let read = ascii_run::read_alone(words);
+    let read = run_read::read_alone(words);
     let answer = read.answer;
     match answer {
         Answered::Ran(kind) => {
             let ranges = read.ranges;
-            said_in_c(ascii_run::scan_length(Run { kind, ranges }, input))
+            said_in_c(run_scan::scan_length(Run { kind, ranges }, input))
         }
         Answered::Refused(refusal) => CScan {
             number: refusal.number,

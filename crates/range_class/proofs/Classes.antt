@@ -16,7 +16,7 @@ use Rattle.refusal.specs.Lists.{some, every}
 use Rattle.refusal.specs.Said.{ok, no}
 use Rattle.ascii_range.specs.Ranges.{range, listed, rangesOfRun}
 use Rattle.range_class.specs.Class.{byteClass, byteNumber, upFrom, bytesIn, bytesOf, classOf, classNumber, said, rangesSaid, classSaid}
-use Rattle.ascii_range.proofs.Scans.{four-ranges}
+use Rattle.ascii_range.proofs.Fields.{four-ranges}
 use Rattle.range_class.specs.Seen.{flags, seenIn, factsOf, both, decided}
 use Rattle.ascii_range.specs.declared.AsciiRange.{AsciiRange}
 use Rattle.ascii_range.specs.declared.AsciiRanges.{AsciiRanges}

@@ -204,7 +204,7 @@ pub fn class(words: &[u32]) -> RangeClass
         first: words[1],
         second: words[2],
     };
-    let ranges = ascii_range::from_run(words[0], packed);
+    let ranges = range_words::from_run(words[0], packed);
     if ranges.count == 0 {
         return RangeClass::Refused(Refusal {
             number: FIELD,

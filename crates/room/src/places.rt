@@ -29,7 +29,7 @@ pub(crate) fn put_run_places(words: &[u32], at: usize, room: &mut [u32], n: usiz
     let mut left = words[at];
     let mut m = n;
     while 0 < left {
-        match words::read_run(words, here) {
+        match simple_words::read_run(words, here) {
             Place::Next(p) => {
                 m = put_place(here, room, m);
                 here = p;
@@ -54,7 +54,7 @@ pub(crate) fn put_wide_row_places(words: &[u32], at: usize, room: &mut [u32], n:
     let mut left = words[at];
     let mut m = n;
     while 0 < left {
-        match words::read_wide_row(words, here) {
+        match listed_words::read_wide_row(words, here) {
             Place::Next(p) => {
                 m = put_place(here, room, m);
                 here = p;
@@ -79,7 +79,7 @@ pub(crate) fn put_accept_places(words: &[u32], at: usize, room: &mut [u32], n: u
     let mut left = words[at];
     let mut m = n;
     while 0 < left {
-        match words::read_accept(words, here) {
+        match listed_words::read_accept(words, here) {
             Place::Next(p) => {
                 m = put_place(here, room, m);
                 here = p;
@@ -104,7 +104,7 @@ pub(crate) fn put_escape_row_places(words: &[u32], at: usize, room: &mut [u32], 
     let mut left = words[at];
     let mut m = n;
     while 0 < left {
-        match words::read_escape_row(words, here) {
+        match listed_words::read_escape_row(words, here) {
             Place::Next(p) => {
                 m = put_place(here, room, m);
                 here = p;
@@ -129,7 +129,7 @@ pub(crate) fn put_continuation_places(words: &[u32], at: usize, room: &mut [u32]
     let mut left = words[at];
     let mut m = n;
     while 0 < left {
-        match words::read_continuation(words, here) {
+        match continuation_words::read_continuation(words, here) {
             Place::Next(p) => {
                 m = put_place(here, room, m);
                 here = p;

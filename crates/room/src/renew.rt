@@ -59,7 +59,7 @@ fn put_accepts(words: &[u32], count: u32, at: usize, room: &mut [u32], n: usize)
     let mut left = count;
     let mut m = n;
     while 0 < left {
-        match words::read_accept(words, here) {
+        match listed_words::read_accept(words, here) {
             Place::Next(p) => {
                 m = put_accept(words, here, p, room, m);
                 here = p;
@@ -106,7 +106,7 @@ fn put_configs(words: &[u32], count: u32, at: usize, room: &mut [u32], n: usize)
     let mut left = count;
     let mut m = n;
     while 0 < left {
-        match words::read_config(words, here) {
+        match listed_words::read_config(words, here) {
             Place::Next(p) => {
                 m = put_config(words, here, p, room, m);
                 here = p;
@@ -158,7 +158,7 @@ fn put_continuations(words: &[u32], count: u32, at: usize, room: &mut [u32], n: 
     let mut left = count;
     let mut m = n;
     while 0 < left {
-        match words::read_continuation(words, here) {
+        match continuation_words::read_continuation(words, here) {
             Place::Next(p) => {
                 m = put_continuation(words, here, p, room, m);
                 here = p;

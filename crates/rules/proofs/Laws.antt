@@ -4,16 +4,15 @@ use Prim.Native.Nat.{ℕ, zero, suc, _+_, _-_, _<_, _≤_}
 use native.Mathlib.Nat.{not-suc-le-zero}
 use native.Mathlib.Numerals.{sub-one}
 use native.Mathlib.Omega.{arith}
-use mathlib.Core.Path.{_≡_, refl, sym, ap, _∙_}
-use mathlib.Core.List.{List, [], _∷_}
-use mathlib.Core.Bool.{Bool, true, false, and-true}
+use mathlib.Core.Path.{_≡_, refl, sym}
+use mathlib.Core.List.{List}
+use mathlib.Core.Bool.{Bool, true, false}
 use lib.ListN.{length, getD, List·getD-eq-default}
 use borrow.Author.Needs.{needs}
 use Rattle.refusal.specs.declared.Refusal.{Refusal}
 use Rattle.words.specs.declared.Place.{Place}
 use Rattle.words.specs.declared.Place.the-variants.{Next, Refused}
-use Rattle.words.specs.Records.{configAt}
-use Rattle.rules.specs.Rules.{everyFrom, every, everyIn, walk, sized, noneOr, wideGood, escapeGood, configGood, continuationWith, continuationGood, firstBroken}
+use Rattle.rules.specs.Rules.{everyFrom, every, everyIn, walk, sized}
 
 -- A word past the end is 0.
 
@@ -84,35 +83,3 @@ unfolding everyIn every walk
 unlisted read test w at h = rw (← past-end w at h)
 
 pub ruleset listing = (needs, unlisted)
-
--- A row or a continuation past the end lists nothing.
-module _ (w : List ℕ) (at : ℕ) (h : length w ≤ at) where
-  pub wide-past : (ns : ℕ) → true ≡ wideGood ns w at
-  unfolding wideGood walk
-  wide-past ns = rw (← past-end w at h)
-
-  pub escape-past : (nc : ℕ) {r : Bool} → r ≡ noneOr nc 0 → r ≡ escapeGood nc w at
-  unfolding escapeGood walk
-  escape-past nc e = e ∙ (rw (← past-end w at h, ← past-all w at 1 h, and-true))
-
-  pub continuation-past : true ≡ continuationGood w at
-  unfolding continuationWith walk
-  continuation-past = rw (← past-end w at h) (unlisted configAt (configGood 0 w) w (at + 1) (omega arith))
-
-pub ruleset ending = (needs, wide-past, escape-past, continuation-past)
-
--- The first broken rule: this one, or one of the others.
-module _ (n : ℕ) (bs : List Bool) where
-  pub broken-here : {ok b : Bool} → ok ≡ b → ok ≡ false → n ≡ firstBroken n (b ∷ bs)
-  unfolding firstBroken
-  broken-here o y = rw (← o, y)
-
-  pub broken-later : {ok b : Bool} {r : ℕ} → ok ≡ b → ok ≡ true → r ≡ firstBroken (n + 1) bs → r ≡ firstBroken n (b ∷ bs)
-  unfolding firstBroken
-  broken-later o y i = i ∙ (rw (← o, y))
-
-pub none-broken : (n : ℕ) {ok b : Bool} → ok ≡ b → ok ≡ true → 0 ≡ firstBroken n (b ∷ [])
-unfolding firstBroken
-none-broken n o y = rw (← o, y)
-
-pub ruleset breaking = (needs, broken-here, broken-later, none-broken)

@@ -6,10 +6,9 @@ ghost use Rattle.room_read.specs.Room.{listedIn};
 ghost use Rattle.ascii_run.specs.Scan as scan;
 ghost use Rattle.ascii_run.specs.Shape.{Gives, refused, shapeOf};
 ghost use Rattle.ascii_run.specs.Words.{readAt, shortRun, kindOf, bytesOf, rangesRun};
-ghost use Rattle.ascii_range.specs.Ranges.{noRanges, rangesOfRun};
+ghost use Rattle.ascii_range.specs.Ranges.{rangesOfRun};
 ghost use Rattle.refusal.specs.Said.{no};
 ghost use Rattle.state_run.specs.StateRun.{runPlace, judged, gotOf, runIn, runOf, asciiRun, skippedBy, said, scannedBy};
-use ascii_range::AsciiRange;
 use ascii_range::AsciiRanges;
 use ascii_range::PackedRanges;
 use ascii_run::Answered;
@@ -29,21 +28,12 @@ pub enum StateScan {
     NoAnswer(Refusal),
 }
 
-fn no_ranges() -> AsciiRanges
-    ensures { λ r. ⌜ r ≡ noRanges ⌝ }
-{
-    AsciiRanges {
-        ranges: [AsciiRange { low: 0, high: 0 }; 4],
-        count: 0,
-    }
-}
-
 fn refuse(number: u32) -> RunAnswer
     ensures { λ r. ⌜ Gives r (refused number 0) ⌝ }
 {
     RunAnswer {
         answer: Answered::Refused(Refusal { number, place: 0 }),
-        ranges: no_ranges(),
+        ranges: ascii_range::none(),
     }
 }
 
@@ -79,7 +69,7 @@ fn read_run(room: &[u32], end: u32, at: usize) -> RunAnswer
     ensures { λ r. ⌜ Gives r (runIn (now (room .entry)) end at) ⌝ }
 {
     let to = end as usize;
-    judge(ascii_run::read_serialized(&room[..to], at))
+    judge(run_read::read_serialized(&room[..to], at))
 }
 
 fn run_of(room: &[u32], i: u32) -> RunAnswer
@@ -111,7 +101,7 @@ pub fn scan_ascii_run<'a>(room: &[u32], state: u16, input: &'a [u8]) -> &'a [u8]
     let answer = got.answer;
     let ranges = got.ranges;
     match answer {
-        Answered::Ran(kind) => ascii_run::scan(Run { kind, ranges }, input),
+        Answered::Ran(kind) => run_scan::scan(Run { kind, ranges }, input),
         Answered::Refused(_) => &input[..0],
     }
 }
@@ -138,7 +128,7 @@ fn no_answer(number: u32) -> StateScan
 fn scan_by(kind: AsciiRun, ranges: AsciiRanges, input: &[u8]) -> StateScan
     ensures { λ r. ⌜ said r ≡ scan.scanSaid (shapeOf kind ranges) (now (input .entry)) ⌝ }
 {
-    told(ascii_run::scan_length(Run { kind, ranges }, input))
+    told(run_scan::scan_length(Run { kind, ranges }, input))
 }
 
 // The scan by a run of one word. The word 0 is none, which most states have.
@@ -148,8 +138,8 @@ fn scan_short(word: u32, at: usize, input: &[u8]) -> StateScan
     if word == 0 {
         return StateScan::NoRun;
     }
-    match ascii_run::short_answer(word, at) {
-        Answered::Ran(kind) => scan_by(kind, no_ranges(), input),
+    match run_read::short_answer(word, at) {
+        Answered::Ran(kind) => scan_by(kind, ascii_range::none(), input),
         Answered::Refused(_) => no_answer(NOT_TABLE),
     }
 }
@@ -158,14 +148,14 @@ fn scan_short(word: u32, at: usize, input: &[u8]) -> StateScan
 fn scan_ranges(kind: u32, words: PackedRanges, at: usize, input: &[u8]) -> StateScan
     ensures { λ r. ⌜ said r ≡ scannedBy (judged (rangesRun at (rangesOfRun kind words))) (now (input .entry)) ⌝ }
 {
-    let ranges = ascii_range::from_run(kind, words);
+    let ranges = range_words::from_run(kind, words);
     if ranges.count == 0 {
         return no_answer(NOT_TABLE);
     }
     scan_by(AsciiRun::Ranges, ranges, input)
 }
 
-// The scan by the run that stands at a word. The words are read as `ascii_run::read_serialized` reads them, but the run is not handed on
+// The scan by the run that stands at a word. The words are read as `run_read::read_serialized` reads them, but the run is not handed on
 // from call to call: through memory that takes longer than most scans.
 fn scan_words(words: &[u32], at: usize, input: &[u8]) -> StateScan
     ensures { λ r. ⌜ said r ≡ scannedBy (judged (readAt (now (words .entry)) at)) (now (input .entry)) ⌝ }

@@ -1,4 +1,3 @@
 pub mod Laws
 pub mod Forms
-pub mod Runs
 pub mod Bounds

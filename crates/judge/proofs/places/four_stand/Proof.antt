@@ -1,12 +1,7 @@
 -- The tests are the definition's.
-use Rattle.judge.specs.Standing.{fourStand}
-use Rattle.judge.proofs.Comparing.{standing-one}
+use Rattle.judge.proofs.Comparing.{standing-one, standing-four}
 use Rattle.judge.proofs.places.four_stand.Statement.{statement}
 use Rattle.judge.proofs.places.four_stand.Tie as tie
-
-returns : tie.Need-returns
-unfolding fourStand
-returns c = cc
 
 pub four-stand-spec : {M : Type 1} → statement M
 four-stand-spec =
@@ -19,4 +14,4 @@ four-stand-spec =
     (λ c κs. search standing-one)
     (λ c. search standing-one)
     (λ c κs. search standing-one)
-    returns)
+    (λ c. search standing-four))

@@ -1,0 +1,76 @@
+// The first of the nine index rules that is broken, in document 01's order.
+ghost use mathlib.Core.Path.{_≡_};
+ghost use Rattle.rules.specs.Rules.{sameCount, broken, brokenRow};
+use rules::word_at;
+
+// Rules 3 and 7: as many runs as states, as many escape rows as states.
+fn same_count(words: &[u32], one: usize, other: usize) -> bool
+    ensures { λ r. ⌜ r ≡ sameCount (now (words .entry)) one other ⌝ }
+{
+    word_at(words, one) == word_at(words, other)
+}
+
+// The number of the first index rule that is broken, or 0.
+pub fn first_broken(
+    words: &[u32],
+    modes: usize,
+    states: usize,
+    runs: usize,
+    ascii_rows: usize,
+    wide_rows: usize,
+    accepts: usize,
+    escape_rows: usize,
+    continuations: usize,
+) -> u32
+    ensures { λ r. ⌜ r ≡ broken (now (words .entry)) modes states runs «ascii_rows» «wide_rows» accepts «escape_rows» continuations ⌝ }
+{
+    if rule_states::mode_starts_are_states(words, modes, states) {
+        if rule_states::states_are_valid(words, states, ascii_rows, wide_rows, accepts) {
+            if same_count(words, runs, states) {
+                if rule_runs::runs_are_classified(words, states, runs, ascii_rows) {
+                    return first_broken_row(
+                        words,
+                        states,
+                        ascii_rows,
+                        wide_rows,
+                        escape_rows,
+                        continuations,
+                    );
+                }
+                return 4;
+            }
+            return 3;
+        }
+        return 2;
+    }
+    1
+}
+
+// The same of the rules on the rows and what they lead to, from 5 on.
+fn first_broken_row(
+    words: &[u32],
+    states: usize,
+    ascii_rows: usize,
+    wide_rows: usize,
+    escape_rows: usize,
+    continuations: usize,
+) -> u32
+    ensures { λ r. ⌜ r ≡ brokenRow (now (words .entry)) states «ascii_rows» «wide_rows» «escape_rows» continuations ⌝ }
+{
+    if rule_ascii::ascii_targets_are_good(words, states, ascii_rows) {
+        if rule_ranges::wide_rows_are_searchable(words, states, wide_rows) {
+            if same_count(words, escape_rows, states) {
+                if rule_ranges::escape_rows_are_valid(words, escape_rows, continuations) {
+                    if rule_contexts::continuation_contexts_are_valid(words, continuations) {
+                        return 0;
+                    }
+                    return 9;
+                }
+                return 8;
+            }
+            return 7;
+        }
+        return 6;
+    }
+    5
+}

@@ -1,0 +1,117 @@
+// Index rule 4: each run is the classification of its state's row.
+// It works on the words and the places of the sections' counts; a word past the end is 0, so every function takes any place.
+ghost use mathlib.Core.Path.{_≡_};
+ghost use Rattle.rules.specs.Rules.{rowOf, rowNumber, classifiedWords, stands, runGood, runsGood, rule4};
+use ascii_run::Answered;
+use ascii_run::Run;
+use ascii_run::RunWords;
+use rules::word_at;
+use rules::word_past;
+use words::Place;
+
+// Rule 4: each run is the classification of its state's row.
+// Row `index` of the ASCII rows: two targets to a word, that of the even symbol in the low half.
+fn row_of(words: &[u32], ascii_rows: usize, index: u32) -> [u16; 128]
+    ensures { λ r. ⌜ r ≡ rowOf (now (words .entry)) «ascii_rows» index ⌝ }
+{
+    let start = 1 + 64 * index as usize;
+    let mut row: [u16; 128] = [0; 128];
+    let mut i = 0;
+    while i < 64 {
+        let word = word_past(words, ascii_rows, start + i);
+        row[2 * i] = (word % 65536) as u16;
+        row[2 * i + 1] = (word / 65536) as u16;
+        i += 1;
+    }
+    row
+}
+
+// The words of the classification of row `index` at a state.
+fn classified_words(words: &[u32], ascii_rows: usize, index: u32, state: u16) -> RunWords
+    ensures { λ r. ⌜ r ≡ classifiedWords (now (words .entry)) «ascii_rows» index state ⌝ }
+{
+    let row = row_of(words, ascii_rows, index);
+    let read = run_classify::classify(&row, state);
+    let answer = read.answer;
+    let ranges = read.ranges;
+    match answer {
+        Answered::Ran(kind) => run_write::write_serialized(Run { kind, ranges }),
+        Answered::Refused(_) => RunWords {
+            length: 0,
+            first: 0,
+            second: 0,
+            third: 0,
+        },
+    }
+}
+
+// The words of a run, one or three, stand at a place.
+fn stands(words: &[u32], at: usize, run: RunWords) -> bool
+    ensures { λ r. ⌜ r ≡ stands (now (words .entry)) at run ⌝ }
+{
+    let first = word_at(words, at) == run.first;
+    let second = word_past(words, at, 1) == run.second;
+    let third = word_past(words, at, 2) == run.third;
+    first & ((run.length < 3) | (second & third))
+}
+
+// The row of a state: the first of its four words.
+fn row_number(words: &[u32], states: usize, state: u32) -> u32
+    ensures { λ r. ⌜ r ≡ rowNumber (now (words .entry)) states state ⌝ }
+{
+    word_past(words, states, 1 + 4 * state as usize)
+}
+
+// The run at a place is that of a state; a state's number has 16 bits.
+fn run_is_classified(words: &[u32], states: usize, ascii_rows: usize, state: u32, at: usize) -> bool
+    ensures { λ r. ⌜ r ≡ runGood (now (words .entry)) states «ascii_rows» state at ⌝ }
+{
+    if state <= 65535 {
+        let index = row_number(words, states, state);
+        let run = classified_words(words, ascii_rows, index, state as u16);
+        return stands(words, at, run);
+    }
+    false
+}
+
+// `count` runs from `at` are those of the first states.
+fn run_records_are_classified(
+    words: &[u32],
+    states: usize,
+    ascii_rows: usize,
+    count: u32,
+    at: usize,
+) -> bool
+    ensures { λ r. ⌜ r ≡ runsGood (now (words .entry)) states «ascii_rows» 0 count at ⌝ }
+{
+    let mut state: u32 = 0;
+    let mut left = count;
+    let mut here = at;
+    while 0 < left {
+        if run_is_classified(words, states, ascii_rows, state, here) {
+            match simple_words::read_run(words, here) {
+                Place::Next(p) => {
+                    here = p;
+                    state += 1;
+                    left -= 1;
+                }
+                Place::Refused(_) => {
+                    return false;
+                }
+            }
+        } else {
+            return false;
+        }
+    }
+    true
+}
+
+// The same of every run.
+pub fn runs_are_classified(words: &[u32], states: usize, runs: usize, ascii_rows: usize) -> bool
+    ensures { λ r. ⌜ r ≡ rule4 (now (words .entry)) states runs «ascii_rows» ⌝ }
+{
+    if words.len() <= runs {
+        return true;
+    }
+    run_records_are_classified(words, states, ascii_rows, words[runs], runs + 1)
+}
