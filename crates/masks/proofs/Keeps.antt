@@ -1,0 +1,104 @@
+-- PLACES: a mask that was put among the distinct ones keeps its place there when more are put behind. Assumes nothing.
+use Prim.Native.Nat.{ℕ, suc, _≤_, _<_}
+use mathlib.Core.Path.{_≡_, refl, ap, _∙_}
+use mathlib.Core.Bool.{Bool, true, false}
+use mathlib.Core.List.{List, [], _∷_, _++_}
+use native.Mathlib.Omega.{arith}
+use lib.ListN.{length, length-append}
+use lib.Dec.{ltb}
+use borrow.Author.Tests.{eq-eqb, lt-ltb, le-ltb}
+use Rattle.refusal.specs.Lists.{pick}
+use Rattle.refusal.specs.Fixed.{NONE}
+use Rattle.transitions.proofs.Order.{le-cases}
+use Rattle.masks.specs.Masks.{isZero, eqList, index, addNew, distinct, placeOf}
+
+eqList-refl : (xs : List ℕ) → eqList xs xs ≡ true
+unfolding eqList
+eqList-refl [] = refl
+eqList-refl (x ∷ xs) = rw (eq-eqb x x refl) (eqList-refl xs)
+
+-- m has a place among the masks
+abbrev pub Has : List (List ℕ) → List ℕ → Type 0
+Has ds m = index ds m < length ds
+
+pub index-snoc : (ds es : List (List ℕ)) (m : List ℕ) → Has ds m → index (ds ++ es) m ≡ index ds m
+unfolding index
+index-snoc [] es m h = absurd (omega arith)
+index-snoc (d ∷ ds) es m h = go (eqList d m) h (λ k. index-snoc ds es m k)
+  where
+    go : (t : Bool) → pick t 0 (suc (index ds m)) < suc (length ds) → (Has ds m → index (ds ++ es) m ≡ index ds m) → pick t 0 (suc (index (ds ++ es) m)) ≡ pick t 0 (suc (index ds m))
+    go true k ih = refl
+    go false k ih = ap suc (ih (omega arith))
+
+has-append : (ds es : List (List ℕ)) (m : List ℕ) → Has ds m → Has (ds ++ es) m
+has-append ds es m h = omega (arith, index-snoc ds es m h, length-append ds es)
+
+has-last : (ds : List (List ℕ)) (m : List ℕ) → Has (ds ++ (m ∷ [])) m
+unfolding index
+has-last [] m = rw (eqList-refl m) (omega arith)
+has-last (d ∷ ds) m = go (eqList d m) (has-last ds m)
+  where
+    go : (t : Bool) → Has (ds ++ (m ∷ [])) m → pick t 0 (suc (index (ds ++ (m ∷ [])) m)) < suc (length (ds ++ (m ∷ [])))
+    go true k = omega arith
+    go false k = omega arith
+
+has-keep : (ds : List (List ℕ)) (x m : List ℕ) → Has ds m → Has (addNew ds x) m
+unfolding addNew
+has-keep ds x m h = go (isZero x) (ltb (index ds x) (length ds))
+  where
+    go : (s t : Bool) → Has (pick s ds (pick t ds (ds ++ (x ∷ [])))) m
+    go true t = h
+    go false true = h
+    go false false = has-append ds (x ∷ []) m h
+
+pub has-new : (ds : List (List ℕ)) (m : List ℕ) → isZero m ≡ false → Has (addNew ds m) m
+unfolding addNew
+has-new ds m z = rw z (
+    le-cases (length ds) (index ds m)
+    (λ h. rw (le-ltb (index ds m) (length ds) h) (has-last ds m))
+    (λ h. rw (lt-ltb (index ds m) (length ds) h) h))
+
+pub has-distinct-keep : (ds ms : List (List ℕ)) (m : List ℕ) → Has ds m → Has (distinct ds ms) m
+unfolding distinct
+has-distinct-keep ds [] m h = h
+has-distinct-keep ds (x ∷ ms) m h = has-distinct-keep (addNew ds x) ms m (has-keep ds x m h)
+
+pub index-last : (ds : List (List ℕ)) (m : List ℕ) → length ds ≤ index ds m → index (ds ++ (m ∷ [])) m ≡ length ds
+unfolding index
+index-last [] m h = rw (eqList-refl m)
+index-last (d ∷ ds) m h = go (eqList d m) h (λ k. index-last ds m k)
+  where
+    go : (t : Bool) → suc (length ds) ≤ pick t 0 (suc (index ds m)) → (length ds ≤ index ds m → index (ds ++ (m ∷ [])) m ≡ length ds) →
+        pick t 0 (suc (index (ds ++ (m ∷ [])) m)) ≡ suc (length ds)
+    go true k ih = absurd (omega arith)
+    go false k ih = ap suc (ih (omega arith))
+
+index-keep : (ds : List (List ℕ)) (x m : List ℕ) → Has ds m → index (addNew ds x) m ≡ index ds m
+unfolding addNew
+index-keep ds x m h = go (isZero x) (ltb (index ds x) (length ds))
+  where
+    go : (s t : Bool) → index (pick s ds (pick t ds (ds ++ (x ∷ [])))) m ≡ index ds m
+    go true t = refl
+    go false true = refl
+    go false false = index-snoc ds (x ∷ []) m h
+
+index-distinct-keep : (ds ms : List (List ℕ)) (m : List ℕ) → Has ds m → index (distinct ds ms) m ≡ index ds m
+unfolding distinct
+index-distinct-keep ds [] m h = refl
+index-distinct-keep ds (x ∷ ms) m h = index-distinct-keep (addNew ds x) ms m (has-keep ds x m h) ∙ index-keep ds x m h
+
+pub place-some : (ds : List (List ℕ)) (m : List ℕ) → isZero m ≡ false → placeOf ds m ≡ index ds m
+unfolding placeOf
+place-some ds m e = rw e
+
+pub place-none : (ds : List (List ℕ)) (m : List ℕ) → isZero m ≡ true → placeOf ds m ≡ NONE
+unfolding placeOf
+place-none ds m e = rw e
+
+pub place-keep : (ds ms : List (List ℕ)) (m : List ℕ) → placeOf (distinct (addNew ds m) ms) m ≡ placeOf (addNew ds m) m
+unfolding placeOf
+place-keep ds ms m = go (isZero m) refl
+  where
+    go : (t : Bool) → isZero m ≡ t → pick (isZero m) NONE (index (distinct (addNew ds m) ms) m) ≡ pick (isZero m) NONE (index (addNew ds m) m)
+    go true e = rw e
+    go false e = rw e (index-distinct-keep (addNew ds m) ms m (has-new ds m e))

@@ -1,0 +1,41 @@
+-- By the law of every loop that writes: the words that are left, written from here, give what all of them give.
+use Prim.Native.Nat.{_+_, _*_, _≤_}
+use mathlib.Core.Path.{_≡_}
+use lib.ListN.{length}
+use Rattle.transitions.specs.Bytes.{transOf}
+use Rattle.masks.proofs.Columns.{columns, Filling}
+use Rattle.masks.proofs.add_column.Statement.{statement}
+use Rattle.masks.proofs.add_column.Tie as tie
+
+abbrev Inv-loop : tie.InvT-loop
+Inv-loop list tag size p segments count out₀ left₀ at₀ k₀ j₀ out left at k j =
+    (at + 2 * left ≤ length segments) × (k + left ≡ count) × Filling (transOf list tag size p) segments count out₀ left at k out
+
+abbrev μ-loop : tie.MeasureT-loop
+μ-loop list tag size p segments count out₀ left₀ at₀ k₀ j₀ out left at k j = left
+
+pub add-column-spec : {M : Type 1} → statement M
+add-column-spec =
+    tie.close
+    (tie.spec
+    Inv-loop
+    μ-loop
+    (λ c. search columns)
+    (λ c. search columns)
+    (λ c. search columns)
+    (λ c κs. search columns)
+    (λ c κs. search columns)
+    (λ c κs. search columns)
+    (λ c. search columns)
+    (λ c. search columns)
+    (λ c. search columns)
+    (λ c. search columns)
+    (λ c. search columns)
+    (λ c. search columns)
+    (λ c. search columns)
+    (λ c. search columns)
+    (λ c. search columns)
+    (λ c. search columns)
+    (λ c. search columns)
+    (λ c. search columns)
+    (λ c. search columns))

@@ -1,0 +1,29 @@
+-- The records that are left end where all do. The measure is how many are left.
+use mathlib.Core.Path.{_≡_}
+use native.Mathlib.Omega.{arith}
+use Rattle.masks.specs.Walk.{Fit, nextOf}
+use Rattle.masks.proofs.Words.{skips, skip-size, skip-value}
+use Rattle.masks.proofs.skip.Statement.{statement}
+use Rattle.masks.proofs.skip.Tie as tie
+
+abbrev Inv-loop : tie.InvT-loop
+Inv-loop list at n here₀ left₀ here left = Fit list left here × (nextOf list left here ≡ nextOf list n at)
+
+abbrev μ-loop : tie.MeasureT-loop
+μ-loop list at n here₀ left₀ here left = left
+
+pub skip-spec : {M : Type 1} → statement M
+skip-spec =
+    tie.close
+    (tie.spec
+    Inv-loop
+    μ-loop
+    (λ c. search skips)
+    (λ c. omega (arith, skip-size _ _ _ (c .before .loop .inv .0) (c .loop-test .taken)))
+    (λ c κs. search skips)
+    (λ c. omega (arith, skip-size _ _ _ (c .before .before .loop .inv .0) (c .before .loop-test .taken)))
+    (λ c. omega (arith, skip-value _ _ _ (c .before .before .loop .inv .0) (c .before .loop-test .taken) (c .size-at .ensures .0)))
+    (λ c. search skips)
+    (λ c. search skips)
+    (λ c. search skips)
+    (λ c. search skips))

@@ -1,0 +1,5 @@
+pub mod Inserts
+pub mod Sorts
+pub mod Swaps
+pub mod Puts
+pub mod Answers

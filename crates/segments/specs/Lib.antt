@@ -1,0 +1,3 @@
+pub mod Segments
+pub mod Sort
+pub mod Answer

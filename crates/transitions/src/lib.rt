@@ -1,0 +1,435 @@
+// Lists of transitions: bytes are read record by record, or refused; the ends of all intervals are written into a lent buffer. A list may
+// be of any length and hold any bytes.
+ghost use mathlib.Core.Path.{_≡_};
+ghost use mathlib.Core.List.{[]};
+ghost use mathlib.Core.Bool.{true};
+ghost use Prim.Native.Nat.{suc, _+_, _*_, _-_, _/_, _≤_, _<_, max, min};
+ghost use lib.ListN.{length};
+ghost use Rattle.written.specs.Over.{Put};
+ghost use Rattle.transitions.specs.Transition.{orderly, inOrder, origin};
+ghost use Rattle.transitions.specs.Intervals.{clip, clips, gaps, intervals, ends, endsAll};
+ghost use Rattle.transitions.specs.Bytes.{numberAt, sizeAt, pairsAt, shapeOf, transOf};
+ghost use Rattle.transitions.specs.Read.{said, stepOf, bodyAt, recordAt, parse, isParsed, accepted, counted};
+ghost use Rattle.transitions.specs.Ends.{parseInto, Writes};
+use refusal::FIELD;
+use refusal::LIMIT;
+use refusal::MAX_INTERVALS;
+use refusal::MAX_TRANSITIONS;
+use refusal::ORDER;
+use refusal::ROOM;
+use refusal::Refusal;
+use refusal::SHORT;
+
+// The key of the point 0, the key behind the last point, and how many points there are.
+const ORIGIN: u64 = 2147483648;
+
+const BEYOND: u64 = 2148597760;
+
+const POINTS: u32 = 1114112;
+
+// Both ends of the most intervals that a list may have.
+const ENDS: usize = 2048;
+
+// How many transitions and intervals a list has, or why it is none.
+pub enum Transitions {
+    Read { count: usize, intervals: usize },
+    Refused(Refusal),
+}
+
+// Where the next record starts and how many intervals this one has, or its refusal's number.
+enum Step {
+    Good { next: usize, intervals: usize },
+    Bad(u32),
+}
+
+fn wide(x: u8) -> u64
+    ensures { λ r. ⌜ (r ≡ x) × (r < 256) ⌝ }
+{
+    x as u64
+}
+
+// The key of the number whose four bytes start at p.
+fn number_at(list: &[u8], p: usize) -> u64
+    requires { ⌜ p + 4 ≤ length (now list) ⌝ }
+    ensures { λ r. ⌜ (r ≡ numberAt (now (list .entry)) p) × (r < 4294967296) ⌝ }
+{
+    let a = wide(list[p]);
+    let b = wide(list[p + 1]);
+    let c = wide(list[p + 2]);
+    let d = wide(list[p + 3]);
+    (a + 256 * b + 65536 * c + 16777216 * d + ORIGIN) % 4294967296
+}
+
+fn size_at(list: &[u8], p: usize) -> usize
+    requires { ⌜ p + 2 ≤ length (now list) ⌝ }
+    ensures { λ r. ⌜ (r ≡ sizeAt (now (list .entry)) p) × (r < 65536) ⌝ }
+{
+    let a = wide(list[p]);
+    let b = wide(list[p + 1]);
+    (a + 256 * b) as usize
+}
+
+// May a record of this tag have a value of this size?
+fn shape(tag: u8, size: usize) -> bool
+    ensures { λ r. ⌜ r ≡ shapeOf tag size ⌝ }
+{
+    if tag == 1 {
+        return size == 4;
+    }
+    if tag == 2 {
+        return size == 8;
+    }
+    if tag == 3 {
+        return size % 8 == 0;
+    }
+    if tag == 4 {
+        return size % 8 == 0;
+    }
+    if tag == 5 {
+        return size == 0;
+    }
+    false
+}
+
+// Are the n pairs from p in order?
+fn ordered(list: &[u8], p: usize, n: usize) -> bool
+    requires { ⌜ p + 8 * n ≤ length (now list) ⌝ }
+    ensures { λ r. ⌜ r ≡ orderly 0 (pairsAt (now (list .entry)) n p) ⌝ }
+{
+    let mut from: u64 = 0;
+    let mut here = p;
+    let mut left = n;
+    while 0 < left {
+        let low = number_at(list, here);
+        let high = number_at(list, here + 4);
+        if low < from {
+            return false;
+        }
+        if high < low {
+            return false;
+        }
+        from = high + 1;
+        here += 8;
+        left -= 1;
+    }
+    true
+}
+
+fn in_order(list: &[u8], tag: u8, size: usize, p: usize) -> bool
+    requires { ⌜ p + size ≤ length (now list) ⌝ }
+    ensures { λ r. ⌜ r ≡ inOrder (transOf (now (list .entry)) tag size p) ⌝ }
+{
+    if tag == 1 {
+        return true;
+    }
+    if tag == 2 {
+        return true;
+    }
+    if tag == 3 {
+        return ordered(list, p, size / 8);
+    }
+    if tag == 4 {
+        return ordered(list, p, size / 8);
+    }
+    true
+}
+
+// 1 where the keys from a to before b hold a point, else 0.
+fn is_live(a: u64, b: u64) -> usize
+    ensures { λ r. ⌜ (r ≡ length (clip a b [])) × (r ≤ 1) ⌝ }
+{
+    if b <= ORIGIN {
+        return 0;
+    }
+    if BEYOND <= a {
+        return 0;
+    }
+    if b <= a {
+        return 0;
+    }
+    1
+}
+
+// The first key that is left of a not-set, behind the pair that ends with `high`.
+fn next_after(next: u64, high: u64) -> u64
+    requires { ⌜ (next ≤ 4294967296) × (high < 4294967296) ⌝ }
+    ensures { λ r. ⌜ (r ≡ max next (suc high)) × (r ≤ 4294967296) ⌝ }
+{
+    if next <= high {
+        return high + 1;
+    }
+    next
+}
+
+// How many intervals the n pairs from p have as a set ..
+fn count_clips(list: &[u8], p: usize, n: usize) -> usize
+    requires { ⌜ p + 8 * n ≤ length (now list) ⌝ }
+    ensures { λ r. ⌜ r ≡ length (clips (pairsAt (now (list .entry)) n p)) ⌝ }
+{
+    let mut found: usize = 0;
+    let mut here = p;
+    let mut left = n;
+    while 0 < left {
+        let low = number_at(list, here);
+        let high = number_at(list, here + 4);
+        found += is_live(low, high + 1);
+        here += 8;
+        left -= 1;
+    }
+    found
+}
+
+// .. and as a not-set.
+fn count_gaps(list: &[u8], p: usize, n: usize) -> usize
+    requires { ⌜ p + 8 * n ≤ length (now list) ⌝ }
+    ensures { λ r. ⌜ r ≡ length (gaps origin (pairsAt (now (list .entry)) n p)) ⌝ }
+{
+    let mut found: usize = 0;
+    let mut next = ORIGIN;
+    let mut here = p;
+    let mut left = n;
+    while 0 < left {
+        let low = number_at(list, here);
+        let high = number_at(list, here + 4);
+        found += is_live(next, low);
+        next = next_after(next, high);
+        here += 8;
+        left -= 1;
+    }
+    found + is_live(next, BEYOND)
+}
+
+fn count(list: &[u8], tag: u8, size: usize, p: usize) -> usize
+    requires bytes { ⌜ p + size ≤ length (now list) ⌝ }
+    requires fits { ⌜ shapeOf tag size ≡ true ⌝ }
+    ensures { λ r. ⌜ r ≡ length (intervals (transOf (now (list .entry)) tag size p)) ⌝ }
+{
+    if tag == 1 {
+        let k = number_at(list, p);
+        return is_live(k, k + 1);
+    }
+    if tag == 2 {
+        let low = number_at(list, p);
+        let high = number_at(list, p + 4);
+        return is_live(low, high + 1);
+    }
+    if tag == 3 {
+        return count_clips(list, p, size / 8);
+    }
+    if tag == 4 {
+        return count_gaps(list, p, size / 8);
+    }
+    1
+}
+
+// The record at `at`, whose value has `size` bytes, all there.
+fn read_body(list: &[u8], at: usize, size: usize) -> Step
+    requires { ⌜ at + 3 + size ≤ length (now list) ⌝ }
+    ensures { λ r. ⌜ r ≡ stepOf (bodyAt (now (list .entry)) at size) ⌝ }
+{
+    let tag = list[at];
+    if shape(tag, size) {
+        if in_order(list, tag, size, at + 3) {
+            return Step::Good {
+                next: at + 3 + size,
+                intervals: count(list, tag, size, at + 3),
+            };
+        }
+        return Step::Bad(ORDER);
+    }
+    Step::Bad(FIELD)
+}
+
+fn read_record(list: &[u8], at: usize) -> Step
+    ensures { λ r. ⌜ r ≡ stepOf (recordAt (now (list .entry)) at) ⌝ }
+{
+    if at < list.len() {
+        if 3 <= list.len() - at {
+            let size = size_at(list, at + 1);
+            if size <= list.len() - at - 3 {
+                return read_body(list, at, size);
+            }
+        }
+    }
+    Step::Bad(SHORT)
+}
+
+// How many transitions a list has, and how many intervals in all. A record is judged whole before the limits are.
+pub fn read_transitions(list: &[u8]) -> Transitions
+    ensures { λ r. ⌜ said r ≡ counted (parse (now (list .entry))) ⌝ }
+{
+    let mut left = MAX_TRANSITIONS;
+    let mut at: usize = 0;
+    let mut used: usize = 0;
+    while at < list.len() {
+        match read_record(list, at) {
+            Step::Good { next, intervals } => {
+                if left == 0 {
+                    return Transitions::Refused(Refusal {
+                        number: LIMIT,
+                        place: at,
+                    });
+                }
+                if MAX_INTERVALS - used < intervals {
+                    return Transitions::Refused(Refusal {
+                        number: LIMIT,
+                        place: at,
+                    });
+                }
+                used += intervals;
+                left -= 1;
+                at = next;
+            }
+            Step::Bad(n) => {
+                return Transitions::Refused(Refusal {
+                    number: n,
+                    place: at,
+                });
+            }
+        }
+    }
+    Transitions::Read {
+        count: MAX_TRANSITIONS - left,
+        intervals: used,
+    }
+}
+
+// The point of the key a, or 0 before the points.
+fn low_of(a: u64) -> u32
+    requires { ⌜ a ≤ 4294967296 ⌝ }
+    ensures { λ r. ⌜ r ≡ a - 2147483648 ⌝ }
+{
+    if a <= ORIGIN {
+        return 0;
+    }
+    (a - ORIGIN) as u32
+}
+
+fn end_of(b: u64) -> u32
+    requires { ⌜ b ≤ 4294967296 ⌝ }
+    ensures { λ r. ⌜ r ≡ min (b - 2147483648) 1114112 ⌝ }
+{
+    if b <= ORIGIN {
+        return 0;
+    }
+    if b <= BEYOND {
+        return (b - ORIGIN) as u32;
+    }
+    POINTS
+}
+
+// Writes both ends of the points whose keys are from a to before b, where there is one, and answers the next place.
+fn put_span(out: &mut [u32], n: usize, a: u64, b: u64) -> usize
+    requires room { ⌜ n + length (ends (clip a b [])) ≤ length (now out) ⌝ }
+    requires fits { ⌜ (a ≤ 4294967296) × (b ≤ 4294967296) ⌝ }
+    ensures { λ r. ⌜ Put (ends (clip a b [])) n (now (out .entry)) r (now (out .exit)) ⌝ }
+{
+    if is_live(a, b) == 0 {
+        return n;
+    }
+    out[n] = low_of(a);
+    out[n + 1] = end_of(b);
+    n + 2
+}
+
+// The ends of a set's intervals ..
+fn put_clips(list: &[u8], p: usize, count: usize, out: &mut [u32], n: usize) -> usize
+    requires bytes { ⌜ p + 8 * count ≤ length (now list) ⌝ }
+    requires room { ⌜ n + length (ends (clips (pairsAt (now list) count p))) ≤ length (now out) ⌝ }
+    ensures { λ r. ⌜ Put (ends (clips (pairsAt (now (list .entry)) count p))) n (now (out .entry)) r (now (out .exit)) ⌝ }
+{
+    let mut here = p;
+    let mut left = count;
+    let mut m = n;
+    while 0 < left {
+        let low = number_at(list, here);
+        let high = number_at(list, here + 4);
+        m = put_span(out, m, low, high + 1);
+        here += 8;
+        left -= 1;
+    }
+    m
+}
+
+// .. and of a not-set's.
+fn put_gaps(list: &[u8], p: usize, count: usize, out: &mut [u32], n: usize) -> usize
+    requires bytes { ⌜ p + 8 * count ≤ length (now list) ⌝ }
+    requires room { ⌜ n + length (ends (gaps origin (pairsAt (now list) count p))) ≤ length (now out) ⌝ }
+    ensures { λ r. ⌜ Put (ends (gaps origin (pairsAt (now (list .entry)) count p))) n (now (out .entry)) r (now (out .exit)) ⌝ }
+{
+    let mut next = ORIGIN;
+    let mut here = p;
+    let mut left = count;
+    let mut m = n;
+    while 0 < left {
+        let low = number_at(list, here);
+        let high = number_at(list, here + 4);
+        m = put_span(out, m, next, low);
+        next = next_after(next, high);
+        here += 8;
+        left -= 1;
+    }
+    put_span(out, m, next, BEYOND)
+}
+
+fn put_ends(list: &[u8], tag: u8, size: usize, p: usize, out: &mut [u32], n: usize) -> usize
+    requires bytes { ⌜ p + size ≤ length (now list) ⌝ }
+    requires fits { ⌜ shapeOf tag size ≡ true ⌝ }
+    requires room { ⌜ n + length (ends (intervals (transOf (now list) tag size p))) ≤ length (now out) ⌝ }
+    ensures { λ r. ⌜ Put (ends (intervals (transOf (now (list .entry)) tag size p))) n (now (out .entry)) r (now (out .exit)) ⌝ }
+{
+    if tag == 1 {
+        let k = number_at(list, p);
+        return put_span(out, n, k, k + 1);
+    }
+    if tag == 2 {
+        let low = number_at(list, p);
+        let high = number_at(list, p + 4);
+        return put_span(out, n, low, high + 1);
+    }
+    if tag == 3 {
+        return put_clips(list, p, size / 8, out, n);
+    }
+    if tag == 4 {
+        return put_gaps(list, p, size / 8, out, n);
+    }
+    put_span(out, n, ORIGIN, BEYOND)
+}
+
+// Writes the ends of all intervals of an accepted list, and answers how many.
+fn gather(list: &[u8], out: &mut [u32]) -> usize
+    requires good { ⌜ isParsed (parse (now list)) ≡ true ⌝ }
+    requires room { ⌜ 2048 ≤ length (now out) ⌝ }
+    ensures { λ r. ⌜ Put (endsAll (accepted (parse (now (list .entry))))) 0 (now (out .entry)) r (now (out .exit)) ⌝ }
+{
+    let mut at: usize = 0;
+    let mut n: usize = 0;
+    while at < list.len() {
+        let tag = list[at];
+        let size = size_at(list, at + 1);
+        n = put_ends(list, tag, size, at + 3, out, n);
+        at = at + 3 + size;
+    }
+    n
+}
+
+// Both ends of every interval, the low and the high + 1, in the order of the records. Refused: every number of the buffer is 0.
+// Accepted: twice as many numbers as there are intervals, then zeros.
+pub fn read_intervals(list: &[u8], out: &mut [u32]) -> Transitions
+    ensures { λ r. ⌜ Writes r (length (now (out .entry))) (now (out .exit)) (parseInto (length (now (out .entry))) (now (list .entry))) ⌝ }
+{
+    written::clear(out);
+    if out.len() < ENDS {
+        return Transitions::Refused(Refusal {
+            number: ROOM,
+            place: 0,
+        });
+    }
+    match read_transitions(list) {
+        Transitions::Read { count, intervals } => {
+            gather(list, out);
+            Transitions::Read { count, intervals }
+        }
+        Transitions::Refused(r) => Transitions::Refused(r),
+    }
+}
