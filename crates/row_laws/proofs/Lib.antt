@@ -1,0 +1,17 @@
+pub mod Searches
+pub mod Joins
+pub mod Canonical
+pub mod Parts
+pub mod Cuts
+pub mod Segments
+pub mod Sampled
+pub mod Masks
+pub mod Distinct
+pub mod Built
+pub mod Looks
+pub mod SameRows
+pub mod Flips
+pub mod Found
+pub mod Examples
+pub mod Sizes
+pub mod Goals

@@ -1,0 +1,30 @@
+-- The targets before i are 0, the others as they were. The measure is how many are left.
+use Prim.Native.Nat.{_-_, _≤_}
+use mathlib.Core.Path.{_≡_}
+use mathlib.Core.List.{_++_}
+use lib.ListN.{length, drop, replicate}
+use Rattle.written.proofs.Overs.{clearing}
+use Rattle.rows.proofs.clear_targets.Statement.{statement}
+use Rattle.rows.proofs.clear_targets.Tie as tie
+
+abbrev Inv-loop : tie.InvT-loop
+Inv-loop targets₀ i₀ targets i =
+    (targets ≡ replicate i 0 ++ drop i targets₀) × (length targets ≡ length targets₀) × (i ≤ length targets₀)
+
+abbrev μ-loop : tie.MeasureT-loop
+μ-loop targets₀ i₀ targets i = length targets₀ - i
+
+pub clear-targets-spec : {M : Type 1} → statement M
+clear-targets-spec =
+    tie.close
+    (tie.spec
+    Inv-loop
+    μ-loop
+    (λ c. search clearing)
+    (λ c. search clearing)
+    (λ c. search clearing)
+    (λ c. search clearing)
+    (λ c. search clearing)
+    (λ c. search clearing)
+    (λ c. search clearing)
+    (λ c. search clearing))

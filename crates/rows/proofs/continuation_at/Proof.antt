@@ -1,0 +1,13 @@
+-- By the test on the way.
+use Rattle.rows.proofs.Keeping.{giving}
+use Rattle.rows.proofs.continuation_at.Statement.{statement}
+use Rattle.rows.proofs.continuation_at.Tie as tie
+
+pub continuation-at-spec : {M : Type 1} → statement M
+continuation-at-spec =
+    tie.close
+    (tie.spec
+    (λ c. search giving)
+    (λ c. search giving)
+    (λ c. search giving)
+    (λ c. search giving))

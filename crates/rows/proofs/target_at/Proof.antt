@@ -1,0 +1,15 @@
+-- By the test on the way.
+use Rattle.rows.proofs.Keeping.{giving}
+use Rattle.rows.proofs.target_at.Statement.{statement}
+use Rattle.rows.proofs.target_at.Tie as tie
+
+pub target-at-spec : {M : Type 1} → statement M
+target-at-spec =
+    tie.close
+    (tie.spec
+    (λ c. search giving)
+    (λ c. search giving)
+    (λ c κs. search giving)
+    (λ c. search giving)
+    (λ c κs. search giving)
+    (λ c. search giving))

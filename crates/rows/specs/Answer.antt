@@ -1,0 +1,85 @@
+-- What the row call answers, and leaves in the six lent buffers (document 01, "Transitions, segments, rows"). w is the list's bytes, x the list read,
+-- `targets` and `conts` are what the caller gave each of its distinct masks. Assumes nothing.
+use Prim.Native.Nat.{ℕ}
+use mathlib.Core.Path.{_≡_}
+use mathlib.Core.Bool.{Bool, _&&_, _||_}
+use mathlib.Core.List.{List, [], _∷_}
+use lib.ListN.{length}
+use lib.Dec.{ltb, eqb}
+use Rattle.refusal.specs.Said.{Said, ok, no, ROOM, TARGETS}
+use Rattle.refusal.specs.Lists.{pick}
+use Rattle.written.specs.Over.{zeros, padded}
+use Rattle.transitions.specs.Transition.{Transition}
+use Rattle.transitions.specs.Read.{Parsed, parsed, refused}
+use Rattle.segments.specs.Answer.{segmentsIn}
+use Rattle.masks.specs.Masks.{matrix, distinctOf}
+use Rattle.masks.specs.Answer.{parseDistinct, masksIn}
+use Rattle.row_laws.specs.Row.{Row, numbers}
+use Rattle.row_laws.specs.Build.{asciiOf, wideOf, escapeOf}
+use Rattle.rows.specs.declared.Rows.{Rows}
+use Rattle.rows.specs.declared.Rows.the-variants.{Built, Refused}
+
+-- how many numbers the wide row and the escape row take, or a refusal
+abbrev pub said : Rows → Said
+said (Built wide escape) = ok (wide ∷ escape ∷ [])
+said (Refused r) = no (r .number) (r .place)
+
+-- how many numbers each lent buffer has
+pub record Lent : Type 0 where
+  pub segments : ℕ
+  pub masks : ℕ
+  pub distinct : ℕ
+  pub ascii : ℕ
+  pub wide : ℕ
+  pub escape : ℕ
+
+abbrev pub lent : List ℕ → List ℕ → List ℕ → List ℕ → List ℕ → List ℕ → Lent
+lent segments masks distinct ascii wide escape =
+    record { segments = length segments; masks = length masks; distinct = length distinct; ascii = length ascii; wide = length wide; escape = length escape }
+
+-- "targets or continuations differ in number from distinct masks"
+abbrev pub asMany : List Transition → List ℕ → List ℕ → Bool
+asMany ts targets conts = eqb (length targets) (length (distinctOf ts)) && eqb (length conts) (length (distinctOf ts))
+
+-- "128 ascii targets, 3 numbers per possible range (6,144 each for wide and escape)"
+abbrev pub tooShort : Lent → Bool
+tooShort l = ltb (l .ascii) 128 || ltb (l .wide) 6144 || ltb (l .escape) 6144
+
+-- behind the records: TARGETS, ROOM for the rows
+unfoldable pub withRows : Lent → List ℕ → List ℕ → Parsed → Parsed
+withRows l targets conts (parsed ts) =
+    pick (asMany ts targets conts) (pick (tooShort l) (refused ROOM 0) (parsed ts)) (refused TARGETS 0)
+withRows l targets conts (refused k p) = refused k p
+
+-- "A row call: ROOM for the buffers above, the records, TARGETS, ROOM for these."
+abbrev pub parseRows : Lent → List ℕ → List ℕ → List ℕ → Parsed
+parseRows l w targets conts = withRows l targets conts (parseDistinct (l .segments) (l .masks) (l .distinct) w)
+
+-- the numbers of both rows, or the refusal
+unfoldable pub counted : List ℕ → List ℕ → Parsed → Said
+counted targets conts (parsed ts) =
+    ok (length (numbers (wideOf ts targets)) ∷ length (numbers (escapeOf ts targets conts)) ∷ [])
+counted targets conts (refused k p) = no k p
+
+-- "Refused: all outputs zero. Accepted: outputs past the answer's length zero."
+unfoldable pub asciiIn : ℕ → List ℕ → Parsed → List ℕ
+asciiIn n targets (parsed ts) = padded n (asciiOf ts targets)
+asciiIn n targets (refused k p) = zeros n
+
+unfoldable pub wideIn : ℕ → List ℕ → Parsed → List ℕ
+wideIn n targets (parsed ts) = padded n (numbers (wideOf ts targets))
+wideIn n targets (refused k p) = zeros n
+
+unfoldable pub escapeIn : ℕ → List ℕ → List ℕ → Parsed → List ℕ
+escapeIn n targets conts (parsed ts) = padded n (numbers (escapeOf ts targets conts))
+escapeIn n targets conts (refused k p) = zeros n
+
+-- the answer says it, and the six buffers hold it
+pub record Builds (r : Rows) (l : Lent) (segments masks distinct ascii wide escape : List ℕ) (targets conts : List ℕ) (x : Parsed) : Type 0 where
+  pub says : said r ≡ counted targets conts x
+  pub low-high : segments ≡ segmentsIn (l .segments) x
+  pub each : masks ≡ masksIn matrix (l .masks) x
+  pub once : distinct ≡ masksIn distinctOf (l .distinct) x
+  pub narrow : ascii ≡ asciiIn (l .ascii) targets x
+  pub broad : wide ≡ wideIn (l .wide) targets x
+  pub escapes : escape ≡ escapeIn (l .escape) targets conts x
