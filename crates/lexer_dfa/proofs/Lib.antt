@@ -4,6 +4,10 @@ pub mod Examples
 pub mod RoundTrip
 pub mod Unique
 pub mod UniqueLookups
+pub mod UniqueBuild
 pub mod LookupExamples
 pub mod Looking
 pub mod Covered
+pub mod Buffers
+pub mod Demand3
+pub mod UniqueRows

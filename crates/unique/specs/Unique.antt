@@ -16,3 +16,7 @@ DeterminesPart {K} {A} {E} C = (κs : K) (a : A κs) (x y : RefT (List ℕ)) (e 
 -- where the call writes a slice that it is lent: the answers are equal, and so are the lists in the slice at exit. `lent` takes the slice from the arguments at exit
 abbrev pub DeterminesBoth : {K : Type 0} {A X E : K → Type 0} → ((κs : K) → E κs → RefT (List ℕ)) → ((κs : K) → A κs → X κs → E κs → Type 0) → Type 0
 DeterminesBoth {K} {A} {X} {E} lent C = (κs : K) (a : A κs) (x y : X κs) (e f : E κs) → C κs a x e → C κs a y f → (x ≡ y) × (lent κs e .now ≡ lent κs f .now)
+
+-- where it writes several: the answers are equal, and so are the lists in all of the slices at exit. `lent` takes these from the arguments at exit
+abbrev pub DeterminesAll : {K : Type 0} {A X E : K → Type 0} → ((κs : K) → E κs → List (List ℕ)) → ((κs : K) → A κs → X κs → E κs → Type 0) → Type 0
+DeterminesAll {K} {A} {X} {E} lent C = (κs : K) (a : A κs) (x y : X κs) (e f : E κs) → C κs a x e → C κs a y f → (x ≡ y) × (lent κs e ≡ lent κs f)
