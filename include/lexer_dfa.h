@@ -1,6 +1,6 @@
 /*
  * The proved lexer DFA table core for C: ASCII ranges and runs, the decoding and encoding
- * of tables, and lookups.
+ * of tables, lookups, and the building of rows from lists of transitions.
  *
  * The functions stand in target/liblexer_dfa.a, which `./build` writes (x86-64).
  *
@@ -8,11 +8,12 @@
  * refusal; there is nothing to check first. A list is passed as pointer and length. The pointer
  * must be the address of that many numbers, or any address that is not null and is aligned where
  * the length is 0. Nothing is kept after the call. Nothing is written but what is passed without
- * `const`: a room or an output, which may not overlap the other lists of the call, and which is
- * written as far as its length and no further.
+ * `const`: a room, an output or a pool, which may not overlap the other lists of the call, and which
+ * is written as far as its length and no further.
  *
  * An answer's `number` is 0 where the call was accepted. Else it is the refusal's number, `place`
  * tells where, every other field is 0, and so is every number of a room or an output that is lent.
+ * A pool is no output: a refused one is left as it was.
  */
 #ifndef LEXER_DFA_H
 #define LEXER_DFA_H
@@ -27,17 +28,23 @@ extern "C" {
 /* Refusals. */
 enum {
     LEXER_DFA_ACCEPTED = 0,
-    LEXER_DFA_SHORT = 1, /* the words end inside a run or a table; place: the number of words */
+    LEXER_DFA_SHORT = 1, /* the words end inside a run or a table; place: the number of words. The
+                            bytes end inside a transition's record; place: the record's offset */
     LEXER_DFA_TAG = 2,   /* the first word is not LEXER_DFA_TABLE_TAG; place: 0 */
     LEXER_DFA_FIELD = 3, /* a value that its field forbids; place: told by each call */
-    LEXER_DFA_LIMIT = 4, /* more than LEXER_DFA_MAX_WORDS words; place: 8192 */
+    LEXER_DFA_LIMIT = 4, /* more than LEXER_DFA_MAX_WORDS words; place: 8192. Too many transitions or
+                            intervals; place: the offset of the record that goes past */
     LEXER_DFA_LEFT = 5,  /* words remain behind the table; place: the first of them */
     LEXER_DFA_INDEX = 6, /* an index rule is broken; place: the first such rule, 1 to 9 */
-    LEXER_DFA_ROOM = 7,  /* a room or an output is too short; place: 0 */
+    LEXER_DFA_ROOM = 7,  /* a room or an output is too short, or a pool for a new row; place: 0 */
     LEXER_DFA_STATE = 8, /* no such state, or a symbol past 127 for ascii_target; place: 0 */
-    LEXER_DFA_NOT_TABLE = 9, /* what a lookup follows in a room is not there, or a room to encode is
-                                not one that decoding leaves; place: 0 */
-    LEXER_DFA_ORDER = 10     /* the starts of compiled modes descend; place: the mode */
+    LEXER_DFA_NOT_TABLE = 9, /* what a lookup follows in a room is not there, a room to encode is
+                                not one that decoding leaves, or rows do not fit their pool;
+                                place: 0 */
+    LEXER_DFA_ORDER = 10,    /* the starts of compiled modes descend; place: the mode. The pairs of
+                                a set do not ascend; place: the record's offset */
+    LEXER_DFA_TARGETS = 11   /* targets or continuations are not as many as distinct masks;
+                                place: 0 */
 };
 
 /* What a byte is. */
@@ -253,6 +260,125 @@ Span lexer_dfa_continuation_contexts(const uint32_t *room, size_t len, uint32_t 
 /* Its configs: state, alternative rule or NONE, two flags, context, action count, and the actions, of
    three numbers each. */
 Span lexer_dfa_continuation_configs(const uint32_t *room, size_t len, uint32_t continuation);
+
+/*
+ * From the transitions of a state to its rows.
+ *
+ * A list of transitions is bytes, record behind record: a one-byte tag, a two-byte length, and so
+ * many bytes of numbers, four each; all little-endian, numbers in two's complement.
+ *   1  atom: one number                  2  range: low, high
+ *   3  set: pairs of low and high        4  not-set: every code point but those of its pairs
+ *   5  wildcard: every code point; no numbers
+ * What lies outside 0 to 0x10FFFF holds no code point, and so does an inverted range. Each low of a set
+ * is at most its high, and each next low above the last high.
+ *
+ * A record is judged in this order: SHORT; FIELD, where the tag is none of these or the length not its
+ * own; ORDER; LIMIT. All are at the record's offset in the list.
+ *
+ * A call that writes first asks for the room that the longest list can need: ROOM, before a byte is
+ * read, where a buffer is shorter. Behind what is written a buffer is 0.
+ */
+#define LEXER_DFA_MAX_TRANSITIONS 256
+#define LEXER_DFA_MAX_INTERVALS 1024
+#define LEXER_DFA_INTERVAL_NUMBERS 2048
+#define LEXER_DFA_SEGMENT_NUMBERS 4096
+#define LEXER_DFA_MASK_WORDS 8192
+#define LEXER_DFA_ASCII_TARGETS 128
+#define LEXER_DFA_ROW_NUMBERS 6144
+
+/* How many transitions a list has, and how many intervals they have together: cut to the code points,
+   empty ones dropped. */
+typedef struct {
+    uint32_t number;
+    size_t place;
+    size_t transitions;
+    size_t intervals;
+} TransitionsAnswer;
+
+TransitionsAnswer lexer_dfa_read_transitions(const uint8_t *list, size_t len);
+
+/* Writes both ends of every interval, its low and its high + 1, in the order of the records. Asks for
+   LEXER_DFA_INTERVAL_NUMBERS. */
+TransitionsAnswer lexer_dfa_read_intervals(const uint8_t *list, size_t len, uint32_t *out,
+                                           size_t out_len);
+
+typedef struct {
+    uint32_t number;
+    size_t place;
+    size_t segments;
+} SegmentsAnswer;
+
+/* Writes the segments of a list, as low, high: each runs from an end of an interval to before the next.
+   Asks for LEXER_DFA_SEGMENT_NUMBERS. */
+SegmentsAnswer lexer_dfa_char_segments(const uint8_t *list, size_t len, uint32_t *out,
+                                       size_t out_len);
+
+/* How many masks were written, and of how many words each: one for 64 transitions. */
+typedef struct {
+    uint32_t number;
+    size_t place;
+    size_t masks;
+    size_t words;
+} MasksAnswer;
+
+/* Writes the segments of a list, and for each its mask: bit i is set where transition i holds the
+   segment. Asks for LEXER_DFA_SEGMENT_NUMBERS and LEXER_DFA_MASK_WORDS. */
+MasksAnswer lexer_dfa_segment_mask_matrix(const uint8_t *list, size_t len, uint32_t *segments,
+                                          size_t segments_len, uint64_t *masks,
+                                          size_t masks_len);
+
+/* Does the same, and writes the distinct masks: each that is not empty once, in the order of first
+   segment; `masks` is how many those are. Asks for LEXER_DFA_MASK_WORDS for them too. */
+MasksAnswer lexer_dfa_distinct_masks(const uint8_t *list, size_t len, uint32_t *segments,
+                                     size_t segments_len, uint64_t *masks, size_t masks_len,
+                                     uint64_t *distinct, size_t distinct_len);
+
+/* How many numbers the wide row and the escape row have, three for each range. */
+typedef struct {
+    uint32_t number;
+    size_t place;
+    size_t wide;
+    size_t escape;
+} RowsAnswer;
+
+/*
+ * Builds the rows of a state: where it goes on each code point. Each distinct mask, in the order above,
+ * is given a target, and a continuation or LEXER_DFA_NONE. What is given LEXER_DFA_DEAD_STATE is left
+ * out of the rows, as is what no transition holds. `ascii` gets the targets of 0 to 127; `wide` low,
+ * high and target of ranges from 128 on; `escape` low, high and continuation, ASCII among them.
+ *
+ * Judged in this order: ROOM for segments, masks and distinct masks, as above; the records; TARGETS;
+ * ROOM for the rows, where `ascii` is shorter than LEXER_DFA_ASCII_TARGETS, or `wide` or `escape` than
+ * LEXER_DFA_ROW_NUMBERS.
+ */
+RowsAnswer lexer_dfa_build_rows(const uint8_t *list, size_t len, const uint16_t *targets,
+                                size_t targets_len, const uint32_t *continuations,
+                                size_t continuations_len, uint32_t *segments,
+                                size_t segments_len, uint64_t *masks, size_t masks_len,
+                                uint64_t *distinct, size_t distinct_len, uint16_t *ascii,
+                                size_t ascii_len, uint32_t *wide, size_t wide_len,
+                                uint32_t *escape, size_t escape_len);
+
+/*
+ * Pools, in which each row stands once and is known by its number. How many rows stand in a pool the
+ * caller says with each call; a row that is interned is found among them, or appended, and then its
+ * number is how many there were. Nothing else in the pool changes. Judged in this order: NOT_TABLE,
+ * where the stated rows do not fit the pool; FIELD; ROOM, where the row is new and the pool can't take
+ * it. All are at 0, so that the answer has no place.
+ */
+typedef struct {
+    size_t row;
+    uint32_t number;
+} InternAnswer;
+
+/* A row of 128 targets; any other length is FIELD. */
+InternAnswer lexer_dfa_intern_ascii(uint16_t *pool, size_t pool_len, size_t rows,
+                                    const uint16_t *row, size_t row_len);
+
+/* A row of ranges, low, high and target each; FIELD where it is not in threes, or a target is past
+   65535. It stands in the pool as its count, and its ranges behind that. */
+InternAnswer lexer_dfa_intern_wide(uint32_t *pool, size_t pool_len, size_t rows,
+                                   const uint32_t *row, size_t row_len);
 
 #ifdef __cplusplus
 }

@@ -1,5 +1,6 @@
 //! What the tests, the recorder and the benchmark share.
 
+pub mod lists;
 #[cfg(not(no_oracle))]
 pub mod original;
 pub mod plain;

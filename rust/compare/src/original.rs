@@ -1,6 +1,7 @@
 //! The original, asked in a way that it can answer.
 
-use oracle::CompiledLexerDfa;
+use lexer_dfa::Transition;
+use oracle::{CompiledLexerDfa, IntervalSet, LexerTransition};
 
 /// The table whose words these are. The original reserves room for the mode count before it reads
 /// a mode (docs/DIFFERENCES.md), up to 16 GiB. A count that goes past the words is refused whatever
@@ -12,4 +13,17 @@ pub fn decode(words: &[u32]) -> Option<CompiledLexerDfa> {
         return CompiledLexerDfa::from_serialized(&fewer);
     }
     CompiledLexerDfa::from_serialized(words)
+}
+
+/// The same transitions, as the original has them.
+pub fn transitions(list: &[Transition]) -> Vec<LexerTransition> {
+    let set = |pairs: &[(i32, i32)]| IntervalSet { listed: pairs.to_vec() };
+    let one = |transition: &Transition| match transition {
+        Transition::Atom(label) => LexerTransition::Atom { label: *label },
+        Transition::Range(start, stop) => LexerTransition::Range { start: *start, stop: *stop },
+        Transition::Set(pairs) => LexerTransition::Set { set: set(pairs) },
+        Transition::NotSet(pairs) => LexerTransition::NotSet { set: set(pairs) },
+        Transition::Wildcard => LexerTransition::Wildcard,
+    };
+    list.iter().map(one).collect()
 }

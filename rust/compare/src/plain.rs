@@ -5,11 +5,14 @@ pub mod coverage;
 mod decode;
 mod encode;
 pub mod lookup;
+pub mod pools;
 mod read;
+pub mod rows;
 mod rules;
 mod run;
 pub mod show;
 pub mod table;
+pub mod transitions;
 
 pub use decode::{decode, room};
 pub use encode::encode;

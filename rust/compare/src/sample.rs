@@ -1,5 +1,6 @@
-//! The recorded samples: questions, and what the original answers. The programs `replay` and
-//! `replay_lookups` read them from standard input and ask the proved functions the same.
+//! The recorded samples: questions, and what the original answers. The programs `replay`,
+//! `replay_lookups` and `replay_rows` read them from standard input and ask the proved functions the
+//! same.
 //!
 //! In that of `replay` records stand one after the other, numbers little-endian; all seeded, so that every run writes
 //! the same bytes.
@@ -16,6 +17,7 @@
 
 mod decode;
 mod lookups;
+mod rows;
 
 use crate::seeded::{Seeded, range_words};
 use oracle::AsciiRangeClass;
@@ -23,8 +25,8 @@ use oracle::AsciiRangeClass;
 const EACH: usize = 600;
 
 /// The programs, and the sample of each.
-pub fn all() -> [(&'static str, Vec<u8>); 2] {
-    [("replay", bytes()), ("replay_lookups", lookups::bytes())]
+pub fn all() -> [(&'static str, Vec<u8>); 3] {
+    [("replay", bytes()), ("replay_lookups", lookups::bytes()), ("replay_rows", rows::bytes())]
 }
 
 /// The whole sample. `replay` reads 65,536 bytes.

@@ -5,6 +5,8 @@
 //! slice gives: a pointer and a length that describe numbers which live, unchanged, for the call;
 //! and of a room that is written, that the call has it alone.
 
+use crate::rows::RowBuffers;
+
 #[repr(C)]
 pub struct ClassAnswer {
     pub number: u32,
@@ -83,6 +85,43 @@ pub struct ContinuationAnswer {
     pub configs: u32,
 }
 
+#[repr(C)]
+pub struct TransitionsAnswer {
+    pub number: u32,
+    pub place: usize,
+    pub transitions: usize,
+    pub intervals: usize,
+}
+
+#[repr(C)]
+pub struct SegmentsAnswer {
+    pub number: u32,
+    pub place: usize,
+    pub segments: usize,
+}
+
+#[repr(C)]
+pub struct MasksAnswer {
+    pub number: u32,
+    pub place: usize,
+    pub masks: usize,
+    pub words: usize,
+}
+
+#[repr(C)]
+pub struct RowsAnswer {
+    pub number: u32,
+    pub place: usize,
+    pub wide: usize,
+    pub escape: usize,
+}
+
+#[repr(C)]
+pub struct InternAnswer {
+    pub row: usize,
+    pub number: u32,
+}
+
 unsafe extern "C" {
     safe fn lexer_dfa_class_of_byte(byte: u8) -> u32;
     fn lexer_dfa_class(words: *const u32, len: usize) -> ClassAnswer;
@@ -107,6 +146,71 @@ unsafe extern "C" {
         input: *const u8,
         input_len: usize,
     ) -> StateScanAnswer;
+    fn lexer_dfa_read_transitions(list: *const u8, len: usize) -> TransitionsAnswer;
+    fn lexer_dfa_read_intervals(
+        list: *const u8,
+        len: usize,
+        out: *mut u32,
+        out_len: usize,
+    ) -> TransitionsAnswer;
+    fn lexer_dfa_char_segments(
+        list: *const u8,
+        len: usize,
+        out: *mut u32,
+        out_len: usize,
+    ) -> SegmentsAnswer;
+    fn lexer_dfa_segment_mask_matrix(
+        list: *const u8,
+        len: usize,
+        segments: *mut u32,
+        segments_len: usize,
+        masks: *mut u64,
+        masks_len: usize,
+    ) -> MasksAnswer;
+    fn lexer_dfa_distinct_masks(
+        list: *const u8,
+        len: usize,
+        segments: *mut u32,
+        segments_len: usize,
+        masks: *mut u64,
+        masks_len: usize,
+        distinct: *mut u64,
+        distinct_len: usize,
+    ) -> MasksAnswer;
+    fn lexer_dfa_build_rows(
+        list: *const u8,
+        len: usize,
+        targets: *const u16,
+        targets_len: usize,
+        continuations: *const u32,
+        continuations_len: usize,
+        segments: *mut u32,
+        segments_len: usize,
+        masks: *mut u64,
+        masks_len: usize,
+        distinct: *mut u64,
+        distinct_len: usize,
+        ascii: *mut u16,
+        ascii_len: usize,
+        wide: *mut u32,
+        wide_len: usize,
+        escape: *mut u32,
+        escape_len: usize,
+    ) -> RowsAnswer;
+    fn lexer_dfa_intern_ascii(
+        pool: *mut u16,
+        pool_len: usize,
+        rows: usize,
+        row: *const u16,
+        row_len: usize,
+    ) -> InternAnswer;
+    fn lexer_dfa_intern_wide(
+        pool: *mut u32,
+        pool_len: usize,
+        rows: usize,
+        row: *const u32,
+        row_len: usize,
+    ) -> InternAnswer;
 }
 
 pub fn class_of_byte(byte: u8) -> u32 {
@@ -146,6 +250,103 @@ pub fn scan_ascii_run(room: &[u32], state: u16, input: &[u8]) -> StateScanAnswer
     unsafe {
         lexer_dfa_scan_ascii_run(room.as_ptr(), room.len(), state, input.as_ptr(), input.len())
     }
+}
+
+pub fn read_transitions(list: &[u8]) -> TransitionsAnswer {
+    // SAFETY: pointer and length are those of a live slice, only read; all bytes are taken.
+    unsafe { lexer_dfa_read_transitions(list.as_ptr(), list.len()) }
+}
+
+pub fn read_intervals(list: &[u8], out: &mut [u32]) -> TransitionsAnswer {
+    // SAFETY: the list is a live slice, only read; the buffer is another, which the call has alone
+    // and writes within its length. All bytes are taken, and every length of either.
+    unsafe { lexer_dfa_read_intervals(list.as_ptr(), list.len(), out.as_mut_ptr(), out.len()) }
+}
+
+pub fn char_segments(list: &[u8], out: &mut [u32]) -> SegmentsAnswer {
+    // SAFETY: as above.
+    unsafe { lexer_dfa_char_segments(list.as_ptr(), list.len(), out.as_mut_ptr(), out.len()) }
+}
+
+pub fn segment_mask_matrix(list: &[u8], segments: &mut [u32], masks: &mut [u64]) -> MasksAnswer {
+    // SAFETY: the list is a live slice, only read; the buffers are others, which the call has alone
+    // and writes within their lengths. All bytes are taken, and every length.
+    unsafe {
+        lexer_dfa_segment_mask_matrix(
+            list.as_ptr(),
+            list.len(),
+            segments.as_mut_ptr(),
+            segments.len(),
+            masks.as_mut_ptr(),
+            masks.len(),
+        )
+    }
+}
+
+pub fn distinct_masks(
+    list: &[u8],
+    segments: &mut [u32],
+    masks: &mut [u64],
+    distinct: &mut [u64],
+) -> MasksAnswer {
+    // SAFETY: as above.
+    unsafe {
+        lexer_dfa_distinct_masks(
+            list.as_ptr(),
+            list.len(),
+            segments.as_mut_ptr(),
+            segments.len(),
+            masks.as_mut_ptr(),
+            masks.len(),
+            distinct.as_mut_ptr(),
+            distinct.len(),
+        )
+    }
+}
+
+pub fn build_rows(
+    list: &[u8],
+    targets: &[u16],
+    continuations: &[u32],
+    lent: RowBuffers<'_>,
+) -> RowsAnswer {
+    let RowBuffers { segments, masks, distinct, ascii, wide, escape } = lent;
+    // SAFETY: list, targets and continuations are live slices, only read; the buffers are others,
+    // which the call has alone and writes within their lengths. All values are taken, and every
+    // length.
+    unsafe {
+        lexer_dfa_build_rows(
+            list.as_ptr(),
+            list.len(),
+            targets.as_ptr(),
+            targets.len(),
+            continuations.as_ptr(),
+            continuations.len(),
+            segments.as_mut_ptr(),
+            segments.len(),
+            masks.as_mut_ptr(),
+            masks.len(),
+            distinct.as_mut_ptr(),
+            distinct.len(),
+            ascii.as_mut_ptr(),
+            ascii.len(),
+            wide.as_mut_ptr(),
+            wide.len(),
+            escape.as_mut_ptr(),
+            escape.len(),
+        )
+    }
+}
+
+pub fn intern_ascii(pool: &mut [u16], rows: usize, row: &[u16]) -> InternAnswer {
+    // SAFETY: the row is a live slice, only read; the pool is another, which the call has alone and
+    // writes within its length. All values are taken, every length, and every number of rows.
+    unsafe { lexer_dfa_intern_ascii(pool.as_mut_ptr(), pool.len(), rows, row.as_ptr(), row.len()) }
+}
+
+pub fn intern_wide(pool: &mut [u32], rows: usize, row: &[u32]) -> InternAnswer {
+    // SAFETY: as above.
+    unsafe { lexer_dfa_intern_wide(pool.as_mut_ptr(), pool.len(), rows, row.as_ptr(), row.len()) }
 }
 
 /// The lookups that take a room and at most two numbers.
@@ -309,6 +510,52 @@ mod tests {
                 assert_eq!(out, [0; 3]);
             }
         }
+    }
+
+    /// A refused list leaves no number behind, in an answer or in a buffer; a refused pool stays as it was.
+    #[test]
+    fn a_refused_list_is_empty() {
+        let list = [5, 0, 0, 6, 0, 0];
+        let answer = read_transitions(&list);
+        assert_eq!((answer.number, answer.place), (3, 3));
+        assert_eq!((answer.transitions, answer.intervals), (0, 0));
+        let (mut numbers, mut masks, mut distinct) = ([7; 4096], [7; 8192], [7; 8192]);
+        let answer = read_intervals(&list, &mut numbers);
+        assert_eq!((answer.number, answer.place), (3, 3));
+        assert_eq!((answer.transitions, answer.intervals), (0, 0));
+        let answer = char_segments(&list, &mut numbers);
+        assert_eq!((answer.number, answer.place, answer.segments), (3, 3, 0));
+        let answer = segment_mask_matrix(&list, &mut numbers, &mut masks);
+        assert_eq!((answer.number, answer.place), (3, 3));
+        assert_eq!((answer.masks, answer.words), (0, 0));
+        let answer = distinct_masks(&list, &mut numbers, &mut masks, &mut distinct);
+        assert_eq!((answer.number, answer.place), (3, 3));
+        assert_eq!((answer.masks, answer.words), (0, 0));
+        assert!(numbers.iter().all(|&number| number == 0));
+        assert!(masks.iter().chain(&distinct).all(|&word| word == 0));
+
+        let (mut ascii, mut wide, mut escape) = ([7; 128], [7; 6144], [7; 6144]);
+        let lent = RowBuffers {
+            segments: &mut numbers,
+            masks: &mut masks,
+            distinct: &mut distinct,
+            ascii: &mut ascii,
+            wide: &mut wide,
+            escape: &mut escape,
+        };
+        let answer = build_rows(&list[..3], &[], &[], lent);
+        assert_eq!((answer.number, answer.place, answer.wide, answer.escape), (11, 0, 0, 0));
+        assert!(ascii.iter().all(|&target| target == 0));
+        assert!(wide.iter().chain(&escape).all(|&number| number == 0));
+
+        let mut pool = [7; 129];
+        let answer = intern_ascii(&mut pool, 1, &[8; 128]);
+        assert_eq!((answer.number, answer.row), (7, 0));
+        assert_eq!(pool, [7; 129]);
+        let mut pool = [0, 7];
+        let answer = intern_wide(&mut pool, 2, &[]);
+        assert_eq!((answer.number, answer.row), (9, 0));
+        assert_eq!(pool, [0, 7]);
     }
 
     /// The words behind a run's own are 0, and an accepted answer's place is 0.

@@ -21,14 +21,22 @@ mod class;
 #[allow(unsafe_code)]
 mod ffi;
 pub mod lookup;
+pub mod pools;
 mod refusal;
+pub mod rows;
 mod run;
 mod table;
+mod transition;
 
 pub use class::{AsciiRangeClass, ByteClass, class, class_of_byte};
 pub use lookup::{AcceptRecord, ContinuationRecord};
 pub use refusal::Refusal;
+pub use rows::{
+    NO_CONTINUATION, RowBuilder, Rows, build_rows, char_segments, distinct_masks, read_intervals,
+    read_transitions, segment_mask_matrix,
+};
 pub use run::{AsciiRun, AsciiRunScan, scan};
 pub use table::{
     DEAD_STATE, Decoded, ESCAPE_STATE, MAX_WORDS, ROOM_NUMBERS, Table, decode_into, encode_into,
 };
+pub use transition::{MAX_INTERVALS, MAX_TRANSITIONS, Transition, list_bytes};

@@ -15,8 +15,8 @@ mod prediction;
 pub use atn::ascii_range::{AsciiRange, AsciiRangeClass, AsciiRanges, MAX_RANGES, scan_scalar};
 #[cfg(not(no_oracle))]
 pub use atn::lexer_dfa::reach::{
-    Pools, accept, accepts, char_continuation, class, classify, continuations, eof_continuation,
-    masks, merge, read_run, run_words, scan, segments, split,
+    Pools, Rows, accept, accepts, char_continuation, class, classify, continuations,
+    eof_continuation, intervals, masks, merge, read_run, rows, run_words, scan, segments, split,
 };
 #[cfg(not(no_oracle))]
 pub use atn::lexer_dfa::{AsciiRun, AsciiRunScan, CompiledLexerDfa};

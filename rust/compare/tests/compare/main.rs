@@ -15,9 +15,12 @@ mod lists;
 #[cfg(not(no_oracle))]
 mod live;
 mod lookup;
+mod pools;
 mod refusals;
 mod rooms;
+mod rows;
 mod samples;
+mod segments;
 mod show;
 mod tables;
 mod telling;
@@ -87,6 +90,20 @@ fn checks() -> Vec<(&'static str, Result<Check, String>)> {
         ("coverage: every point, by the original", live!(coverage::every_point)),
         ("coverage: seeded tables, by the plain reading", Ok(coverage::seeded)),
         ("coverage: strange rooms, by the plain reading", Ok(coverage::strange)),
+        ("segments: seeded lists, by the original", live!(segments::seeded)),
+        ("segments: every small list, by the original", live!(segments::every_small)),
+        ("segments: every short list, by the plain reading", Ok(segments::short_lists)),
+        ("segments: every short record, by the plain reading", Ok(segments::short_records)),
+        ("segments: seeded lists, by the plain reading", Ok(segments::seeded)),
+        ("segments: limits, by the plain reading", Ok(segments::limits)),
+        ("segments: short buffers, by the plain reading", Ok(segments::short_buffers)),
+        ("rows: seeded lists, by the original", live!(rows::seeded)),
+        ("rows: seeded lists, by the plain reading", Ok(rows::seeded)),
+        ("rows: short buffers, by the plain reading", Ok(rows::short_buffers)),
+        ("rows: every point, by the plain reading", Ok(rows::every_point)),
+        ("pools: seeded rows, by the original", live!(pools::seeded)),
+        ("pools: seeded pools, by the plain reading", Ok(pools::seeded)),
+        ("pools: every small pool, by the plain reading", Ok(pools::small_pools)),
         ("samples: what stands in samples/", Ok(samples::are_written)),
         ("show: pages of seeded tables, by plain rendering", program(show::seeded)),
         ("show: pages of damaged inputs, by plain rendering", program(show::damaged)),
@@ -100,7 +117,7 @@ fn sample_of(program: &str) -> String {
 }
 
 fn sample() -> Result<Check, String> {
-    for program in ["replay", "replay_lookups"] {
+    for program in ["replay", "replay_lookups", "replay_rows"] {
         if !std::path::Path::new(&sample_of(program)).exists() {
             return Err(format!("crates/{program}/stdin is not there"));
         }

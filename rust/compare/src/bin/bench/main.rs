@@ -1,7 +1,7 @@
 //! Times the proved library against the original, both in one run over the same inputs, and prints
-//! a Markdown table.
+//! a Markdown table. Words choose parts of it: runs, decode, encode, lookups, rows, pools.
 //!
-//!     cargo run --release --bin bench
+//!     cargo run --release --bin bench [WORD..]
 
 #[cfg(not(no_oracle))]
 mod decode;
@@ -9,6 +9,8 @@ mod decode;
 mod encode;
 #[cfg(not(no_oracle))]
 mod lookups;
+#[cfg(not(no_oracle))]
+mod rows;
 #[cfg(not(no_oracle))]
 mod runs;
 #[cfg(not(no_oracle))]
@@ -23,11 +25,21 @@ fn main() {
     );
     println!("| call | Rust ns | ours ns | ratio |");
     println!("|---|---:|---:|---:|");
-    runs::scans();
-    runs::classifications();
-    decode::decodings();
-    encode::encodings();
-    lookups::lookups();
+    let parts: [(&str, fn()); 7] = [
+        ("runs", runs::scans),
+        ("runs", runs::classifications),
+        ("decode", decode::decodings),
+        ("encode", encode::encodings),
+        ("lookups", lookups::lookups),
+        ("rows", rows::builds),
+        ("pools", rows::pools),
+    ];
+    let asked: Vec<String> = std::env::args().skip(1).collect();
+    for (name, part) in parts {
+        if asked.is_empty() || asked.iter().any(|word| word == name) {
+            part();
+        }
+    }
 }
 
 #[cfg(no_oracle)]

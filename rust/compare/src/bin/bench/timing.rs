@@ -21,6 +21,12 @@ pub fn compare<T, U>(
     println!("| {name} | {rust:.1} | {ours:.1} | {:.2} |", ours / rust);
 }
 
+/// Prints the median of something that one side alone does.
+pub fn alone<T>(name: &str, calls: usize, mut ours: impl FnMut(usize) -> T) {
+    let times = (0..ROUNDS).map(|_| round(calls, &mut ours)).collect();
+    println!("| {name} | | {:.1} | |", median(times));
+}
+
 /// Nanoseconds for one call.
 fn round<T>(calls: usize, mut side: impl FnMut(usize) -> T) -> f64 {
     let start = Instant::now();

@@ -38,7 +38,8 @@ pub fn class(words: &[u32]) -> Option<AsciiRangeClass> {
     }
 }
 
-fn intervals(list: &[LexerTransition]) -> Vec<Vec<(i32, i32)>> {
+/// The intervals of each transition of a list.
+pub fn intervals(list: &[LexerTransition]) -> Vec<Vec<(i32, i32)>> {
     list.iter().map(transition_char_intervals).collect()
 }
 
@@ -68,6 +69,37 @@ pub fn merge(segments: &[(i32, i32, u32)]) -> Vec<(u32, u32, u32)> {
         .collect()
 }
 
+/// An ascii row, a wide row and an escape row.
+pub type Rows = ([u16; 128], Vec<(u32, u32, u16)>, Vec<(u32, u32, u32)>);
+
+/// The rows of a transition list, made as `expand_state` does, but for the targets: a mask's target and
+/// continuation are asked of the caller, once for each mask, and not of the ATN.
+pub fn rows(list: &[LexerTransition], mut give: impl FnMut(&[u64]) -> (u16, u32)) -> Rows {
+    let intervals = intervals(list);
+    let segments = char_segments(&intervals);
+    let matrix = segment_mask_matrix(&segments, &intervals, list.len());
+    let mut known: FxHashMap<Vec<u64>, (u16, u32)> = FxHashMap::default();
+    let (mut targets, mut escapes) = (Vec::new(), Vec::new());
+    let masks = matrix.chunks(list.len().div_ceil(64).max(1));
+    for (mask, (first, last)) in masks.zip(segments) {
+        if mask.iter().any(|&word| word != 0) {
+            let given = known.get(mask).copied().unwrap_or_else(|| {
+                let new = give(mask);
+                known.insert(mask.to_vec(), new);
+                new
+            });
+            if given.0 != DEAD_STATE {
+                targets.push((first, last, given.0));
+                if given.1 != u32::MAX {
+                    escapes.push((first, last, given.1));
+                }
+            }
+        }
+    }
+    let (ascii, wide) = split(&targets);
+    (ascii, wide, merge(&escapes))
+}
+
 /// Both pools with their rows.
 #[derive(Debug, Default)]
 pub struct Pools {
@@ -84,6 +116,21 @@ impl Pools {
     pub fn intern_wide(&mut self, row: &[(u32, u32, u16)]) -> u32 {
         let row = row.iter().map(|&(low, high, target)| WideRange { low, high, target }).collect();
         self.known.intern_wide(&mut self.wide, row)
+    }
+
+    /// The targets of all ascii rows, row after row.
+    pub fn ascii_numbers(&self) -> &[u16] {
+        self.ascii.as_flattened()
+    }
+
+    /// All wide rows, each its count and then its ranges.
+    pub fn wide_numbers(&self) -> Vec<u32> {
+        let mut numbers = Vec::new();
+        for row in &self.wide {
+            numbers.push(row.len() as u32);
+            numbers.extend(row.iter().flat_map(|r| [r.low, r.high, u32::from(r.target)]));
+        }
+        numbers
     }
 }
 

@@ -1,0 +1,86 @@
+// Reads what stands at the front of a slice. Past its end every byte is 0, so that no reader asks anything of its caller;
+// whether a record is whole is seen afterwards, from how many bytes it has.
+ghost use Prim.Native.Nat.{_<_};
+
+pub fn byte(s: &[u8], at: usize) -> u8 {
+    if at < s.len() { s[at] } else { 0 }
+}
+
+// What stands after the first n bytes.
+pub fn after(s: &[u8], n: usize) -> &[u8] {
+    if n <= s.len() { &s[n..] } else { &s[0..0] }
+}
+
+// The first n bytes, or all of them where there are fewer.
+pub fn front(s: &[u8], n: usize) -> &[u8] {
+    if n <= s.len() { &s[0..n] } else { s }
+}
+
+fn wide(x: u8) -> u16
+    ensures { λ r. ⌜ r < 256 ⌝ }
+{
+    x as u16
+}
+
+fn wider(x: u16) -> u32
+    ensures { λ r. ⌜ r < 65536 ⌝ }
+{
+    x as u32
+}
+
+pub fn half(s: &[u8]) -> u16 {
+    wide(byte(s, 0)) + 256 * wide(byte(s, 1))
+}
+
+pub fn word(s: &[u8]) -> u32 {
+    wider(half(s)) + 65536 * wider(half(after(s, 2)))
+}
+
+// A half that says how many.
+pub fn size(s: &[u8]) -> usize
+    ensures { λ r. ⌜ r < 65536 ⌝ }
+{
+    half(s) as usize
+}
+
+// A check, of 64 bits.
+pub fn check(s: &[u8]) -> u64 {
+    longer(word(s)) + 4294967296 * longer(word(after(s, 4)))
+}
+
+fn longer(x: u32) -> u64
+    ensures { λ r. ⌜ r < 4294967296 ⌝ }
+{
+    x as u64
+}
+
+// As many halves as there is place for.
+pub fn halves(s: &[u8], out: &mut [u16]) {
+    let mut at: usize = 0;
+    let mut i: usize = 0;
+    while i < out.len() {
+        out[i] = half(after(s, at));
+        at = std::num::wrapping_add_usize(at, 2);
+        i += 1;
+    }
+}
+
+// As many words as there is place for.
+pub fn words(s: &[u8], out: &mut [u32]) {
+    let mut at: usize = 0;
+    let mut i: usize = 0;
+    while i < out.len() {
+        out[i] = word(after(s, at));
+        at = std::num::wrapping_add_usize(at, 4);
+        i += 1;
+    }
+}
+
+// The first n of them, or all where there are fewer.
+pub fn first_halves(s: &[u16], n: usize) -> &[u16] {
+    if n <= s.len() { &s[0..n] } else { s }
+}
+
+pub fn first_words(s: &[u32], n: usize) -> &[u32] {
+    if n <= s.len() { &s[0..n] } else { s }
+}
