@@ -43,11 +43,11 @@ Three read x = ((read ≡ runAt) × (x % 256 ≡ 5)) ⊎ (read ≡ contextAt)
 abbrev pub ThreeAt : List ℕ → ℕ → Type 0
 ThreeAt w p = (read : Reader) × Three read (getD w p 0) × Due read (take p w)
 
--- "SHORT: the input ends inside a field or record": w begins a table and is not all of it, or ends behind one or two words of such a record
+-- "1 SHORT | the input ends inside a field or record": w begins a table and is not all of it, or ends behind one or two words of such a record
 abbrev pub EndsInside : List ℕ → Type 0
 EndsInside w = Unfinished w ⊎ ((p : ℕ) × (p < length w) × (length w < p + 3) × Begins (take p w) × ThreeAt w p)
 
--- "TAG: the first word differs"
+-- "2 TAG | the first word differs"
 abbrev pub Differs : List ℕ → Type 0
 Differs w = (x : ℕ) × (more : List ℕ) × (w ≡ x ∷ more) × (x ≡ tag → ⊥)
 
@@ -59,7 +59,7 @@ WordForbidden w p = (p < length w) × (Begins (take (p + 1) w) → ⊥) × ((q :
 abbrev pub ThreeForbidden : List ℕ → ℕ → Type 0
 ThreeForbidden w p = (p + 3 ≤ length w) × (Begins (take (p + 3) w) → ⊥) × ThreeAt w p
 
--- "FIELD: a value its field forbids": behind the tag, w begins a table up to p, and goes on so
+-- "3 FIELD | a value its field forbids": behind the tag, w begins a table up to p, and goes on so
 abbrev pub Forbids : List ℕ → ℕ → Type 0
 Forbids w p = (1 ≤ p) × Unfinished (take p w) × (WordForbidden w p ⊎ ThreeForbidden w p)
 
@@ -80,6 +80,6 @@ pub record Refusals (w : List ℕ) : Type 0 where
   pub short : (p : ℕ) → Exactly (layoutOf w ≡ unfound SHORT p) ((p ≡ length w) × EndsInside w)
   pub differs : (p : ℕ) → Exactly (layoutOf w ≡ unfound TAG p) ((p ≡ 0) × Differs w)
   pub field : (p : ℕ) → Exactly (layoutOf w ≡ unfound FIELD p) (Forbids w p)
-  -- "LEFT: words remain"
+  -- "5 LEFT | words remain"
   pub left : (p : ℕ) → Exactly (layoutOf w ≡ unfound LEFT p) ((p < length w) × Opens w p)
   pub no-other : (r : Refusal) → layoutOf w ≡ Unfound r → (r .number ≡ SHORT) ⊎ (r .number ≡ TAG) ⊎ (r .number ≡ FIELD) ⊎ (r .number ≡ LEFT)
