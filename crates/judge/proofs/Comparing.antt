@@ -26,7 +26,7 @@ use Rattle.rules.specs.Rules.{everyFrom, walk, everyIn}
 use Rattle.rules.specs.Rules as rules
 use Rattle.rules.proofs.Laws.{rest, passed, failed, judged-all}
 use Rattle.room.specs.Room.{startsFrom, starts, each, shifted, placed, laterPlaces, places}
-use Rattle.room.proofs.Writing.{was, run-limit, wide-limit, accept-limit, escape-limit, continuation-limit}
+use Rattle.room.proofs.Writing.{was, record-limit}
 use Rattle.room.proofs.Records.{inner-fits, accept-flag, config-flag, config-other, continuation-configs, continuation-count}
 use Rattle.room.proofs.Tables.{before-1, before-2, before-3, before-4}
 use Rattle.judge.specs.Standing.{standsAt, fourStand, standing, plain, emptyFrom, escapePlaces, widePlaces}
@@ -110,7 +110,7 @@ unfolding placed
 places-start read w d at n = refl
 
 -- what a loop over places is left with
-pub ruleset placing = (needs, places-start, place-passed, place-failed, place-lost, places-done, next-fits, run-limit, wide-limit, accept-limit, escape-limit, continuation-limit)
+pub ruleset placing = (needs, places-start, place-passed, place-failed, place-lost, places-done, next-fits, record-limit)
 
 -- One list behind another
 
