@@ -1,16 +1,16 @@
 -- The search of a row of records, range by range; and that it is the search of a room in which the row's numbers stand. Assumes nothing.
-use Prim.Native.Nat.{ℕ, zero, suc, _+_, _*_, _≤_, _<_}
+use Prim.Native.Nat.{ℕ, zero, suc, _+_, _*_, _<_}
 use native.Mathlib.Nat.{not-suc-le-zero, le-of-suc-le-suc}
 use native.Mathlib.Omega.{arith}
-use mathlib.Core.Path.{_≡_, refl, sym, ap, _∙_}
+use mathlib.Core.Path.{_≡_, refl, ap, _∙_}
 use mathlib.Core.Bool.{Bool, true, false}
 use mathlib.Core.List.{List, [], _∷_}
-use lib.Dec.{leb, ltb}
+use lib.Dec.{leb}
 use lib.ListN.{length, getD, drop}
 use borrow.Author.Tests.{le-leb, lt-ltb}
 use Rattle.refusal.specs.Lists.{pick}
 use Rattle.room_read.specs.declared.Hit.{Hit}
-use Rattle.room_read.specs.declared.Hit.the-variants.{Third, Gap, Outside}
+use Rattle.room_read.specs.declared.Hit.the-variants.{Third, Gap}
 use Rattle.room_read.specs.Search.{found, given, searched}
 use Rattle.wide_range.specs.declared.WideRange.{WideRange}
 use Rattle.wide_range.specs.Ranges.{numbers, targetOf, targetIn, Stands}

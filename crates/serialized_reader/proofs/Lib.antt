@@ -1,0 +1,4 @@
+pub mod Laws
+mod Parts
+pub mod Unique
+pub mod Opens

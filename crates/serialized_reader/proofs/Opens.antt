@@ -1,0 +1,35 @@
+-- The opening is decoding's own: what it refuses, decoding refuses so, by number and place; and else it gives the word that the section of the modes opens with. Assumes nothing.
+use Prim.Native.Nat.{ℕ}
+use native.Mathlib.Omega.{arith}
+use mathlib.Core.Path.{_≡_, refl, sym, ap}
+use mathlib.Core.Bool.{Bool, true, false}
+use mathlib.Core.List.{List}
+use lib.Dec.{ltb, eqb}
+use lib.ListN.{length, getD}
+use borrow.Author.Tests.{eq-eqb, ne-eqb, ltb-true, ltb-false}
+use Rattle.refusal.specs.Said.{SHORT}
+use Rattle.refusal.specs.Fixed.{tag}
+use Rattle.words.specs.Parse.{word, section}
+use Rattle.layout.specs.declared.Sections.{Sections}
+use Rattle.layout.specs.declared.Sections.the-variants.{Unfound}
+use Rattle.layout.specs.Layout.{onward, layoutOf, unfound}
+use Rattle.serialized_reader.specs.declared.Opening.{Opening}
+use Rattle.serialized_reader.specs.declared.Opening.the-variants.{Modes, Refused}
+use Rattle.serialized_reader.specs.Reader.{counted, opened, openingOf}
+
+abbrev pub Agrees : List ℕ → Opening → Sections → Type 0
+Agrees w (Modes n) found = n ≡ getD w 1 0
+Agrees w (Refused r) found = found ≡ Unfound r
+
+pub opening-agrees : (w : List ℕ) → Agrees w (openingOf w) (layoutOf w)
+unfolding opened counted layoutOf onward section word
+opening-agrees w = go (ltb 0 (length w)) refl (eqb (getD w 0 0) tag) refl (ltb 1 (length w)) refl
+  where
+    some : ltb 0 (length w) ≡ true → length w ≡ 0 → ⊥
+    some e l = absurd (omega (arith, ltb-true 0 (length w) e))
+
+    go : (a : Bool) → ltb 0 (length w) ≡ a → (b : Bool) → eqb (getD w 0 0) tag ≡ b → (c : Bool) → ltb 1 (length w) ≡ c → Agrees w (openingOf w) (layoutOf w)
+    go false e b f c g = let l : length w ≡ 0 = omega (arith, ltb-false 0 (length w) e) in rw (e, eq-eqb (length w) 0 l) (ap (unfound SHORT) (sym l))
+    go true e false f c g = rw (e, f, ne-eqb (length w) 0 (some e)) refl
+    go true e true f false g = rw (e, f, g, ne-eqb (length w) 0 (some e)) refl
+    go true e true f true g = rw (e, f, g) refl
