@@ -1,4 +1,2 @@
-pub mod Laws
-mod Parts
+pub mod Parts
 pub mod Unique
-pub mod Opens

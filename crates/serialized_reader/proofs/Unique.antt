@@ -17,7 +17,6 @@ use Rattle.serialized_reader.specs.Reader.{Moves}
 use Rattle.serialized_reader.proofs.new as new
 use Rattle.serialized_reader.proofs.SerializedReader.next as next
 use Rattle.serialized_reader.proofs.SerializedReader.read_state as read-state
-use Rattle.serialized_reader.proofs.read_opening as read-opening
 
 reader-one : (x y : SerializedReader) → x .data ≡ y .data → x .position ≡ y .position → x ≡ y
 reader-one x y p q = ap (λ (d : RefT (List ℕ)). record { «data» = d; position = x .position }) p ∙ ap (λ (n : ℕ). record { «data» = y .data; position = n }) q
@@ -34,6 +33,3 @@ module _ {M : Type 1} (𝓤 : URA M) (H : Heap 𝓤) (A : Atoms 𝓤) (mem : Mem
 
   pub read-state-unique : DeterminesWalkedBoth 𝓤 read-state.ended (λ κs e. now (e .0)) (read-state.clauses 𝓤 H A mem run)
   read-state-unique κs a g x y e f = agree 𝓤 _ _ _ (moves-one _ _ (now (a .0)) x y (now (e .0)) (now (f .0)))
-
-  pub read-opening-unique : DeterminesWalked 𝓤 read-opening.ended (read-opening.clauses 𝓤 H A mem run)
-  read-opening-unique κs a g x y e f = agree 𝓤 _ _ _ (λ p q. p ∙ sym q)

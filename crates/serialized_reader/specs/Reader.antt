@@ -3,9 +3,8 @@ use Prim.Native.Nat.{ℕ, _+_}
 use mathlib.Core.Path.{_≡_}
 use mathlib.Core.List.{List, [], _∷_}
 use lib.ListN.{length, getD}
-use lib.Dec.{ltb, eqb}
-use Rattle.refusal.specs.Said.{Said, ok, no, SHORT, TAG}
-use Rattle.refusal.specs.Fixed.{tag}
+use lib.Dec.{ltb}
+use Rattle.refusal.specs.Said.{Said, ok}
 use Rattle.refusal.specs.Lists.{pick}
 use Rattle.words.specs.declared.Place.{Place}
 use Rattle.words.specs.declared.Place.the-variants.{Next, Refused}
@@ -13,8 +12,6 @@ use Rattle.words.specs.Records.{stateAt}
 use Rattle.serialized_reader.specs.declared.SerializedReader.{SerializedReader}
 use Rattle.serialized_reader.specs.declared.Word.{Word}
 use Rattle.serialized_reader.specs.declared.Word.the-variants.{Value, End}
-use Rattle.serialized_reader.specs.declared.Opening.{Opening}
-use Rattle.serialized_reader.specs.declared.Opening.the-variants as opening
 
 -- a word, or nothing
 abbrev pub wordSaid : Word → Said
@@ -42,23 +39,3 @@ pub record Moves {A : Type 0} (f : List ℕ → ℕ → A) (g : List ℕ → ℕ
   pub answer : r ≡ f (h .data .now) (h .position)
   pub same : h′ .data ≡ h .data
   pub onward : h′ .position ≡ g (h .data .now) (h .position)
-
--- how many modes, or a refusal
-abbrev pub openingSaid : Opening → Said
-openingSaid (opening.Modes n) = ok (n ∷ [])
-openingSaid (opening.Refused r) = no (r .number) (r .place)
-
-abbrev pub refused : ℕ → ℕ → Opening
-refused n p = opening.Refused (record { number = n; place = p })
-
--- the tag, then the count of the modes; n is the word count
-unfoldable pub counted : Word → ℕ → Opening
-counted (Value m) n = opening.Modes m
-counted End n = refused SHORT n
-
-unfoldable pub opened : Word → Word → ℕ → Opening
-opened (Value t) m n = pick (eqb t tag) (counted m n) (refused TAG 0)
-opened End m n = refused SHORT n
-
-abbrev pub openingOf : List ℕ → Opening
-openingOf w = opened (wordAt w 0) (wordAt w 1) (length w)

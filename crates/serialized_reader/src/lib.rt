@@ -2,11 +2,7 @@
 // a number. No proof is made for code over a struct that holds a slice, so those that take or hold one are walked by hand.
 ghost use mathlib.Core.Path.{_≡_};
 ghost use Rattle.words.specs.Records.{stateAt};
-ghost use Rattle.serialized_reader.specs.Reader.{Moves, wordAt, pastWord, pastRecord, pastState, counted, opened, openingOf};
-use refusal::Refusal;
-use refusal::SERIALIZED_TAG;
-use refusal::SHORT;
-use refusal::TAG;
+ghost use Rattle.serialized_reader.specs.Reader.{Moves, wordAt, pastWord, pastRecord, pastState};
 use words::Place;
 
 // The words of a table, and where reading goes on.
@@ -19,12 +15,6 @@ pub struct SerializedReader<'a> {
 pub enum Word {
     Value(u32),
     End,
-}
-
-// How many modes a table has, or why the words do not begin one.
-pub enum Opening {
-    Modes(u32),
-    Refused(Refusal),
 }
 
 fn word_at(words: &[u32], at: usize) -> Word
@@ -81,48 +71,4 @@ impl<'a> SerializedReader<'a> {
         self.position = past_record(place, self.position);
         place
     }
-}
-
-// The count of the modes, if it is there.
-fn count_modes(count: Word, words: usize) -> Opening
-    ensures { λ r. ⌜ r ≡ counted count words ⌝ }
-{
-    match count {
-        Word::Value(n) => Opening::Modes(n),
-        Word::End => Opening::Refused(Refusal {
-            number: SHORT,
-            place: words,
-        }),
-    }
-}
-
-// The tag is judged before the count is asked for.
-fn judge_opening(tag: Word, count: Word, words: usize) -> Opening
-    ensures { λ r. ⌜ r ≡ opened tag count words ⌝ }
-{
-    match tag {
-        Word::Value(t) => {
-            if t == SERIALIZED_TAG {
-                return count_modes(count, words);
-            }
-            Opening::Refused(Refusal {
-                number: TAG,
-                place: 0,
-            })
-        }
-        Word::End => Opening::Refused(Refusal {
-            number: SHORT,
-            place: words,
-        }),
-    }
-}
-
-// What the Rust's `from_serialized` reads first: the tag, and how many modes there are.
-pub fn read_opening(data: &[u32]) -> Opening
-    ensures { λ r. ⌜ r ≡ openingOf (now («data» .entry)) ⌝ }
-{
-    let mut reader = new(data);
-    let tag = reader.next();
-    let count = reader.next();
-    judge_opening(tag, count, data.len())
 }

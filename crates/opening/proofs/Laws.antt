@@ -11,11 +11,12 @@ use borrow.Author.Tests.{eq-eqb, ne-eqb, le-ltb, ltb-false}
 use Rattle.refusal.specs.Said.{SHORT, TAG}
 use Rattle.refusal.specs.Fixed.{tag}
 use Rattle.refusal.specs.Lists.{pick}
 use Rattle.serialized_reader.specs.declared.Word.{Word}
 use Rattle.serialized_reader.specs.declared.Word.the-variants.{Value, End}
-use Rattle.serialized_reader.specs.declared.Opening.{Opening}
-use Rattle.serialized_reader.specs.declared.Opening.the-variants.{Modes}
-use Rattle.serialized_reader.specs.Reader.{wordAt, pastWord, refused, counted, opened}
+use Rattle.opening.specs.declared.Opening.{Opening}
+use Rattle.opening.specs.declared.Opening.the-variants.{Modes}
+use Rattle.serialized_reader.specs.Reader.{wordAt, pastWord}
+use Rattle.opening.specs.Opened.{refused, counted, opened}
 
 pub count-there : (c : Word) (n : ℕ) {m : ℕ} → c ≡ Value m → Modes m ≡ counted c n
 unfolding counted

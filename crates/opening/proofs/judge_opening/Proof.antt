@@ -1,7 +1,7 @@
 -- The tag is the one that is wanted, another, or not there.
-use Rattle.serialized_reader.proofs.Laws.{judging}
-use Rattle.serialized_reader.proofs.judge_opening.Statement.{statement}
-use Rattle.serialized_reader.proofs.judge_opening.Tie as tie
+use Rattle.opening.proofs.Laws.{judging}
+use Rattle.opening.proofs.judge_opening.Statement.{statement}
+use Rattle.opening.proofs.judge_opening.Tie as tie
 
 pub judge-opening-spec : {M : Type 1} → statement M
 judge-opening-spec =

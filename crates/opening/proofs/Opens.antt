@@ -13,9 +13,9 @@ use Rattle.words.specs.Parse.{word, section}
 use Rattle.layout.specs.declared.Sections.{Sections}
 use Rattle.layout.specs.declared.Sections.the-variants.{Unfound}
 use Rattle.layout.specs.Layout.{onward, layoutOf, unfound}
-use Rattle.serialized_reader.specs.declared.Opening.{Opening}
-use Rattle.serialized_reader.specs.declared.Opening.the-variants.{Modes, Refused}
-use Rattle.serialized_reader.specs.Reader.{counted, opened, openingOf}
+use Rattle.opening.specs.declared.Opening.{Opening}
+use Rattle.opening.specs.declared.Opening.the-variants.{Modes, Refused}
+use Rattle.opening.specs.Opened.{counted, opened, openingOf}
 
 abbrev pub Agrees : List ℕ → Opening → Sections → Type 0
 Agrees w (Modes n) found = n ≡ getD w 1 0

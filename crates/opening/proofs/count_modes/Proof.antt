@@ -1,7 +1,7 @@
 -- The word is there, or it is not.
-use Rattle.serialized_reader.proofs.Laws.{judging}
-use Rattle.serialized_reader.proofs.count_modes.Statement.{statement}
-use Rattle.serialized_reader.proofs.count_modes.Tie as tie
+use Rattle.opening.proofs.Laws.{judging}
+use Rattle.opening.proofs.count_modes.Statement.{statement}
+use Rattle.opening.proofs.count_modes.Tie as tie
 
 pub count-modes-spec : {M : Type 1} → statement M
 count-modes-spec =

@@ -1,4 +1,4 @@
--- `serialized_reader::read_opening` meets its contract: a walk of its MIR, by hand. A `SerializedReader` in a local is lent by `&mut` to each of two calls of its method, and comes back changed; the two words are judged.
+-- `opening::read_opening` meets its contract: a walk of its MIR, by hand. A `SerializedReader` in a local is lent by `&mut` to each of two calls of its method, and comes back changed; the two words are judged.
 -- The loan's lifetime is ν ∷ κ, within 'a, as the method's `'a: 's` asks: `within-token` makes its token of ν's and of a half of 'a's, and `within-end` ends it.
 --     lent-out     what the method asks, of a reader in memory and 'a's token.        came-back     what is had once it has returned
 -- Assumes nothing.
@@ -47,34 +47,35 @@ use denote.Triple.Table.{entered, cited}
 use denote.Triple.Walked.{says, Stays, stay-none-slice, walkOf, goes-none-slice, Walks, ends-at, walked, walk-meets}
 use denote.Exit.{yes}
 use denote.Triple.Clauses.{ensured, lasts}
-use Rattle.serialized_reader.specs.Reader.{Moves, wordAt, pastWord, opened, openingOf}
+use Rattle.serialized_reader.specs.Reader.{Moves, wordAt, pastWord}
+use Rattle.opening.specs.Opened.{opened, openingOf}
 use Rattle.serialized_reader.specs.declared.SerializedReader.{SerializedReader}
 use Rattle.serialized_reader.specs.declared.Word.{Word}
-use Rattle.serialized_reader.specs.declared.Opening.{Opening}
-use Rattle.serialized_reader.proofs.Laws.{second-word}
+use Rattle.opening.specs.declared.Opening.{Opening}
+use Rattle.opening.proofs.Laws.{second-word}
 use Rattle.serialized_reader.proofs.Parts.{α, B}
 use Rattle.serialized_reader.proofs.SerializedReader as T
 use Rattle.serialized_reader.proofs.SerializedReader.Laws as T′
 use Rattle.serialized_reader.proofs.Word as S
 use Rattle.serialized_reader.proofs.Word.Laws as S′
-use Rattle.serialized_reader.proofs.Opening as O
-use Rattle.serialized_reader.proofs.Opening.Laws as O′
+use Rattle.opening.proofs.Opening as O
+use Rattle.opening.proofs.Opening.Laws as O′
 use Rattle.serialized_reader.proofs.new as new
 use Rattle.serialized_reader.proofs.new.Symbol as new-def
 use Rattle.serialized_reader.proofs.new.Symbol.{name as #new}
 use Rattle.serialized_reader.proofs.new.Met as new-thm
 use Rattle.serialized_reader.proofs.SerializedReader.next as next
 use Rattle.serialized_reader.proofs.SerializedReader.next.Symbol as next-def
 use Rattle.serialized_reader.proofs.SerializedReader.next.Symbol.{name as #next}
 use Rattle.serialized_reader.proofs.SerializedReader.next.Met as next-thm
-use Rattle.serialized_reader.proofs.judge_opening as judge
-use Rattle.serialized_reader.proofs.judge_opening.Symbol as judge-def
-use Rattle.serialized_reader.proofs.judge_opening.Symbol.{name as #judge}
-use Rattle.serialized_reader.proofs.judge_opening.Met as judge-thm
-use Rattle.serialized_reader.proofs.read_opening.Key.{name as #read-opening}
-use Rattle.serialized_reader.proofs.read_opening as read-opening
-use Rattle.serialized_reader.proofs.read_opening.Statement as stated
-use Rattle.serialized_reader.proofs.read_opening.Code as code
+use Rattle.opening.proofs.judge_opening as judge
+use Rattle.opening.proofs.judge_opening.Symbol as judge-def
+use Rattle.opening.proofs.judge_opening.Symbol.{name as #judge}
+use Rattle.opening.proofs.judge_opening.Met as judge-thm
+use Rattle.opening.proofs.read_opening.Key.{name as #read-opening}
+use Rattle.opening.proofs.read_opening as read-opening
+use Rattle.opening.proofs.read_opening.Statement as stated
+use Rattle.opening.proofs.read_opening.Code as code
 
 abbrev stayed : Stays (read-opening.ended .signature .params) (read-opening.ended .kept)
 stayed = (stay-none-slice (0 ∷ []) tt (plain (λ _. u32)) yes, tt)
@@ -292,4 +293,4 @@ read-opening-spec 𝓤 H 𝓜 𝓖 𝓡 =
     (read-opening-meets 𝓤 H (𝓖 .A) (givenOf 𝓤 H 𝓜 𝓖) (𝓜 .mem) (𝓡 .run) (tablesOf 𝓤 H 𝓜 (tables 𝓤 H 𝓜 𝓡 code.env))
     (cited 𝓤 H (New 𝓤 H (𝓖 .A) (𝓜 .mem) (𝓡 .run)) 𝓜 𝓡 code.env #new new-def.routine code.calls-serialized-reader·new (new-thm.met 𝓤 H 𝓜 𝓖 𝓡))
     (cited 𝓤 H (Next 𝓤 H (𝓖 .A) (𝓜 .mem) (𝓡 .run)) 𝓜 𝓡 code.env #next next-def.routine code.calls-serialized-reader·SerializedReader·next (next-thm.met 𝓤 H 𝓜 𝓖 𝓡))
-    (cited 𝓤 H (Judge 𝓤 H (𝓖 .A) (𝓜 .mem) (𝓡 .run)) 𝓜 𝓡 code.env #judge judge-def.routine code.calls-serialized-reader·judge-opening (judge-thm.met 𝓤 H 𝓜 𝓖 𝓡)))
+    (cited 𝓤 H (Judge 𝓤 H (𝓖 .A) (𝓜 .mem) (𝓡 .run)) 𝓜 𝓡 code.env #judge judge-def.routine code.calls-opening·judge-opening (judge-thm.met 𝓤 H 𝓜 𝓖 𝓡)))
