@@ -1,4 +1,4 @@
--- `forms::target_in` meets its contract: a walk of its MIR, by hand. The array of records, a copy of the parameter in memory, is lent as a slice for a lifetime of the call, and comes back.
+-- `replay_forms::target_in` meets its contract: a walk of its MIR, by hand. The array of records, a copy of the parameter in memory, is lent as a slice for a lifetime of the call, and comes back.
 -- All that the proof knows of `wide_target` is that it meets its contract.
 -- Assumes nothing.
 use mathlib.Core.Path.{_≡_, refl, sym, subst}
@@ -53,10 +53,10 @@ use Rattle.wide_range.proofs.wide_target as wide-target
 use Rattle.wide_range.proofs.wide_target.Symbol as wide-target-def
 use Rattle.wide_range.proofs.wide_target.Symbol.{name as #wide-target}
 use Rattle.wide_range.proofs.wide_target.Met as wide-target-thm
-use Rattle.forms.proofs.target_in.Key.{name as #target-in}
-use Rattle.forms.proofs.target_in as target-in
-use Rattle.forms.proofs.target_in.Statement as stated
-use Rattle.forms.proofs.target_in.Code as code
+use Rattle.replay_forms.proofs.target_in.Key.{name as #target-in}
+use Rattle.replay_forms.proofs.target_in as target-in
+use Rattle.replay_forms.proofs.target_in.Statement as stated
+use Rattle.replay_forms.proofs.target_in.Code as code
 
 abbrev R : RattleType
 R = T.the-row
