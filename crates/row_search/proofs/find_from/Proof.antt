@@ -3,11 +3,11 @@ use native.Mathlib.Omega.{arith}
 use Prim.Native.Nat.{_≤_, _+_, _*_}
 use mathlib.Core.Path.{_≡_}
 use lib.ListN.{length}
 use Rattle.room_read.specs.Search.{found}
-use Rattle.room_read.proofs.Searches.{hit}
-use Rattle.room_read.proofs.Searches.{searching}
-use Rattle.room_read.proofs.find_from.Statement.{statement}
-use Rattle.room_read.proofs.find_from.Tie as tie
+use Rattle.row_search.proofs.Searches.{hit}
+use Rattle.row_search.proofs.Searches.{searching}
+use Rattle.row_search.proofs.find_from.Statement.{statement}
+use Rattle.row_search.proofs.find_from.Tie as tie
 
 abbrev Inv-loop : tie.InvT-loop
 Inv-loop room x count at left₀ here₀ left here = (found room x left here ≡ found room x count at) × (here + left * 3 ≤ length room)

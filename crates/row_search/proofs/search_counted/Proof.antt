@@ -1,7 +1,7 @@
 -- A row that lies in its section, whole, is searched.
 use Rattle.room_read.proofs.Records.{cases}
-use Rattle.room_read.proofs.search_counted.Statement.{statement}
-use Rattle.room_read.proofs.search_counted.Tie as tie
+use Rattle.row_search.proofs.search_counted.Statement.{statement}
+use Rattle.row_search.proofs.search_counted.Tie as tie
 
 pub search-counted-spec : {M : Type 1} → statement M
 search-counted-spec =

@@ -1,8 +1,8 @@
 -- What is left by fours, read on one by one.
 use mathlib.Core.Path.{_∙_}
 use borrow.Author.Needs.{needs}
-use Rattle.room_read.proofs.find.Statement.{statement}
-use Rattle.room_read.proofs.find.Tie as tie
+use Rattle.row_search.proofs.find.Statement.{statement}
+use Rattle.row_search.proofs.find.Tie as tie
 
 returns : tie.Need-returns
 returns c = c .find-from .ensures ∙ c .before .skip .ensures .0

@@ -2,10 +2,10 @@
 use Prim.Native.Nat.{_≤_, _+_, _*_}
 use mathlib.Core.Path.{_≡_}
 use lib.ListN.{length}
 use Rattle.room_read.specs.Search.{found}
-use Rattle.room_read.proofs.Searches.{skipping}
-use Rattle.room_read.proofs.skip.Statement.{statement}
-use Rattle.room_read.proofs.skip.Tie as tie
+use Rattle.row_search.proofs.Searches.{skipping}
+use Rattle.row_search.proofs.skip.Statement.{statement}
+use Rattle.row_search.proofs.skip.Tie as tie
 
 abbrev Inv-loop : tie.InvT-loop
 Inv-loop room x count at left₀ here₀ left here = (found room x left here ≡ found room x count at) × (here + left * 3 ≤ length room)
