@@ -1,8 +1,8 @@
 -- Each answer goes on from what was found.
 use Rattle.accepts.specs.Record.{recordAt}
-use Rattle.accepts.proofs.Laws.{chain}
-use Rattle.accepts.proofs.find_record.Statement.{statement}
-use Rattle.accepts.proofs.find_record.Tie as tie
+use Rattle.accept_records.proofs.Laws.{chain}
+use Rattle.accept_records.proofs.find_record.Statement.{statement}
+use Rattle.accept_records.proofs.find_record.Tie as tie
 
 pub find-record-spec : {M : Type 1} → statement M
 unfolding recordAt

@@ -1,7 +1,7 @@
 -- Each answer goes on from what was found.
-use Rattle.accepts.proofs.Laws.{chain}
-use Rattle.accepts.proofs.accept_actions_span.Statement.{statement}
-use Rattle.accepts.proofs.accept_actions_span.Tie as tie
+use Rattle.accept_records.proofs.Laws.{chain}
+use Rattle.accept_records.proofs.accept_actions_span.Statement.{statement}
+use Rattle.accept_records.proofs.accept_actions_span.Tie as tie
 
 pub accept-actions-span-spec : {M : Type 1} → statement M
 accept-actions-span-spec =

@@ -1,7 +1,7 @@
 -- Each answer is the case that the tests on the way say.
-use Rattle.accepts.proofs.Laws.{cases}
-use Rattle.accepts.proofs.whole_with.Statement.{statement}
-use Rattle.accepts.proofs.whole_with.Tie as tie
+use Rattle.accept_records.proofs.Laws.{cases}
+use Rattle.accept_records.proofs.whole_with.Statement.{statement}
+use Rattle.accept_records.proofs.whole_with.Tie as tie
 
 pub whole-with-spec : {M : Type 1} → statement M
 whole-with-spec =

@@ -1,7 +1,7 @@
 -- Each answer is the case that the tests on the way say.
-use Rattle.accepts.proofs.Laws.{cases}
-use Rattle.accepts.proofs.place_past.Statement.{statement}
-use Rattle.accepts.proofs.place_past.Tie as tie
+use Rattle.accept_records.proofs.Laws.{cases}
+use Rattle.accept_records.proofs.place_past.Statement.{statement}
+use Rattle.accept_records.proofs.place_past.Tie as tie
 
 pub place-past-spec : {M : Type 1} → statement M
 place-past-spec =

@@ -1,8 +1,8 @@
 -- Each answer is the case that the tests on the way say.
 use Rattle.accepts.specs.Record.{wholeTo}
-use Rattle.accepts.proofs.Laws.{cases}
-use Rattle.accepts.proofs.whole_to.Statement.{statement}
-use Rattle.accepts.proofs.whole_to.Tie as tie
+use Rattle.accept_records.proofs.Laws.{cases}
+use Rattle.accept_records.proofs.whole_to.Statement.{statement}
+use Rattle.accept_records.proofs.whole_to.Tie as tie
 
 pub whole-to-spec : {M : Type 1} → statement M
 unfolding wholeTo

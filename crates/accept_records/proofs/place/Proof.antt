@@ -1,8 +1,8 @@
 -- The header is there, or nothing is found.
 use Rattle.accepts.specs.Record.{placeOf}
-use Rattle.accepts.proofs.Laws.{cases}
-use Rattle.accepts.proofs.place.Statement.{statement}
-use Rattle.accepts.proofs.place.Tie as tie
+use Rattle.accept_records.proofs.Laws.{cases}
+use Rattle.accept_records.proofs.place.Statement.{statement}
+use Rattle.accept_records.proofs.place.Tie as tie
 
 pub place-spec : {M : Type 1} → statement M
 unfolding placeOf
