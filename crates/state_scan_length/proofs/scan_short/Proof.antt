@@ -1,7 +1,7 @@
 -- The kind says how far the run goes; a refusal becomes NOT-TABLE.
-use Rattle.state_run.proofs.Laws.{scanning}
-use Rattle.state_run.proofs.scan_short.Statement.{statement}
-use Rattle.state_run.proofs.scan_short.Tie as tie
+use Rattle.state_scan_length.proofs.Laws.{scanning}
+use Rattle.state_scan_length.proofs.scan_short.Statement.{statement}
+use Rattle.state_scan_length.proofs.scan_short.Tie as tie
 
 pub scan-short-spec : {M : Type 1} → statement M
 scan-short-spec =

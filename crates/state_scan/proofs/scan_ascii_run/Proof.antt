@@ -1,7 +1,7 @@
 -- The run that was found skips; a refusal skips nothing.
-use Rattle.state_run.proofs.Laws.{scans}
-use Rattle.state_run.proofs.scan_ascii_run.Statement.{statement}
-use Rattle.state_run.proofs.scan_ascii_run.Tie as tie
+use Rattle.state_scan.proofs.Laws.{scans}
+use Rattle.state_scan.proofs.scan_ascii_run.Statement.{statement}
+use Rattle.state_scan.proofs.scan_ascii_run.Tie as tie
 
 pub scan-ascii-run-spec : {M : Type 1} → statement M
 scan-ascii-run-spec =

@@ -1,7 +1,7 @@
 -- A count of 0 says that the words are no good run.
-use Rattle.state_run.proofs.Laws.{scanning}
-use Rattle.state_run.proofs.scan_ranges.Statement.{statement}
-use Rattle.state_run.proofs.scan_ranges.Tie as tie
+use Rattle.state_scan_length.proofs.Laws.{scanning}
+use Rattle.state_scan_length.proofs.scan_ranges.Statement.{statement}
+use Rattle.state_scan_length.proofs.scan_ranges.Tie as tie
 
 pub scan-ranges-spec : {M : Type 1} → statement M
 scan-ranges-spec =
