@@ -85,7 +85,7 @@ pub fn compiled_mode_flags(room: &[u32], out: &mut [u32]) -> Listed
     ensures { λ r. ⌜ Writes r (length (now (out .entry))) (now (out .exit)) (modeFlags (now (room .entry)) (length (now (out .entry)))) ⌝ }
 {
     clear(out);
-    match modes::find_modes(room, 65535) {
+    match all_modes::find_modes(room, 65535) {
         Modes::Starts(at, count) => flags_into(room, at, count, out),
         Modes::Outside => refuse(NOT_TABLE, 0, out),
     }
@@ -217,7 +217,7 @@ fn counts_with(room: &[u32], states: u32, out: &mut [u32]) -> Listed
     requires { ⌜ now out ≡ zeros (length (now out)) ⌝ }
     ensures { λ r. ⌜ Writes r (length (now (out .entry))) (now (out .exit)) (countsWith (now (room .entry)) (length (now (out .entry))) states) ⌝ }
 {
-    match modes::find_modes(room, limit_of(states)) {
+    match all_modes::find_modes(room, limit_of(states)) {
         Modes::Starts(at, count) => counts_into(room, at, count, states, out),
         Modes::Outside => refuse(NOT_TABLE, 0, out),
     }

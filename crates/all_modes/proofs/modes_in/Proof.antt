@@ -1,7 +1,7 @@
 -- Each answer is the case that the tests on the way say.
-use Rattle.modes.proofs.Laws.{cases}
-use Rattle.modes.proofs.modes_in.Statement.{statement}
-use Rattle.modes.proofs.modes_in.Tie as tie
+use Rattle.all_modes.proofs.Laws.{cases}
+use Rattle.all_modes.proofs.modes_in.Statement.{statement}
+use Rattle.all_modes.proofs.modes_in.Tie as tie
 
 pub modes-in-spec : {M : Type 1} → statement M
 modes-in-spec =

@@ -3,11 +3,11 @@ use Prim.Native.Nat.{_+_, _≤_}
 use mathlib.Core.Path.{_≡_}
 use lib.ListN.{length}
 use Rattle.refusal.specs.Lists.{some}
 use Rattle.modes.specs.Start.{compiled}
 use Rattle.modes.specs.Modes.{numbers}
-use Rattle.modes.proofs.Numbers.{testing}
-use Rattle.modes.proofs.some_compiled.Statement.{statement}
-use Rattle.modes.proofs.some_compiled.Tie as tie
+use Rattle.all_modes.proofs.Tests.{testing}
+use Rattle.all_modes.proofs.some_compiled.Statement.{statement}
+use Rattle.all_modes.proofs.some_compiled.Tie as tie
 
 abbrev Inv-loop : tie.InvT-loop
 Inv-loop room at count left₀ here₀ left here = (some compiled (numbers room left here) ≡ some compiled (numbers room count at)) × (here + left ≤ length room)

@@ -1,8 +1,8 @@
 -- The header is there, or nothing is found.
 use Rattle.modes.specs.Modes.{modesUpTo}
-use Rattle.modes.proofs.Laws.{cases}
-use Rattle.modes.proofs.find_modes.Statement.{statement}
-use Rattle.modes.proofs.find_modes.Tie as tie
+use Rattle.all_modes.proofs.Laws.{cases}
+use Rattle.all_modes.proofs.find_modes.Statement.{statement}
+use Rattle.all_modes.proofs.find_modes.Tie as tie
 
 pub find-modes-spec : {M : Type 1} → statement M
 unfolding modesUpTo

@@ -3,10 +3,10 @@ use Prim.Native.Nat.{_+_, _≤_}
 use mathlib.Core.Path.{_≡_}
 use lib.ListN.{length}
 use Rattle.refusal.specs.Lists.{every}
 use Rattle.modes.specs.Modes.{numbers, upTo}
-use Rattle.modes.proofs.Numbers.{testing}
-use Rattle.modes.proofs.all_up_to.Statement.{statement}
-use Rattle.modes.proofs.all_up_to.Tie as tie
+use Rattle.all_modes.proofs.Tests.{testing}
+use Rattle.all_modes.proofs.all_up_to.Statement.{statement}
+use Rattle.all_modes.proofs.all_up_to.Tie as tie
 
 abbrev Inv-loop : tie.InvT-loop
 Inv-loop room at count limit left₀ here₀ left here = (every (upTo limit) (numbers room left here) ≡ every (upTo limit) (numbers room count at)) × (here + left ≤ length room)
