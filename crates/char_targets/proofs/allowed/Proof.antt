@@ -1,7 +1,7 @@
 -- Each answer is the case that the tests on the way say.
-use Rattle.targets.proofs.Laws.{cases}
-use Rattle.targets.proofs.allowed.Statement.{statement}
-use Rattle.targets.proofs.allowed.Tie as tie
+use Rattle.char_targets.proofs.Laws.{cases}
+use Rattle.char_targets.proofs.allowed.Statement.{statement}
+use Rattle.char_targets.proofs.allowed.Tie as tie
 
 pub allowed-spec : {M : Type 1} → statement M
 allowed-spec =

@@ -1,15 +1,13 @@
 -- Each answer goes on from what was found.
-use Rattle.targets.proofs.Laws.{chain}
-use Rattle.targets.proofs.eof_target.Statement.{statement}
-use Rattle.targets.proofs.eof_target.Tie as tie
+use Rattle.char_targets.proofs.Laws.{chain}
+use Rattle.char_targets.proofs.wide_target.Statement.{statement}
+use Rattle.char_targets.proofs.wide_target.Tie as tie
 
-pub eof-target-spec : {M : Type 1} → statement M
-eof-target-spec =
+pub wide-target-spec : {M : Type 1} → statement M
+wide-target-spec =
     tie.close
     (tie.spec
     (λ c κs. search chain)
-    (λ c. search chain)
-    (λ c. search chain)
     (λ c. search chain)
     (λ c. search chain)
     (λ c κs. search chain)

@@ -1,7 +1,7 @@
 -- Each answer is the case that the tests on the way say.
-use Rattle.targets.proofs.Laws.{cases}
-use Rattle.targets.proofs.wide_row_past.Statement.{statement}
-use Rattle.targets.proofs.wide_row_past.Tie as tie
+use Rattle.room_read.proofs.Records.{cases}
+use Rattle.wide_rows.proofs.wide_row_past.Statement.{statement}
+use Rattle.wide_rows.proofs.wide_row_past.Tie as tie
 
 pub wide-row-past-spec : {M : Type 1} → statement M
 wide-row-past-spec =

@@ -1,7 +1,7 @@
 -- Each answer goes on from what was found.
-use Rattle.targets.proofs.Laws.{chain}
-use Rattle.targets.proofs.search_target.Statement.{statement}
-use Rattle.targets.proofs.search_target.Tie as tie
+use Rattle.char_targets.proofs.Laws.{chain}
+use Rattle.char_targets.proofs.search_target.Statement.{statement}
+use Rattle.char_targets.proofs.search_target.Tie as tie
 
 pub search-target-spec : {M : Type 1} → statement M
 search-target-spec =

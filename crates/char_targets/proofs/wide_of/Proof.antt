@@ -1,16 +1,12 @@
 -- Each answer goes on from what was found.
-use Rattle.targets.proofs.Laws.{chain}
-use Rattle.targets.proofs.char_target.Statement.{statement}
-use Rattle.targets.proofs.char_target.Tie as tie
+use Rattle.char_targets.proofs.Laws.{chain}
+use Rattle.char_targets.proofs.wide_of.Statement.{statement}
+use Rattle.char_targets.proofs.wide_of.Tie as tie
 
-pub char-target-spec : {M : Type 1} → statement M
-char-target-spec =
+pub wide-of-spec : {M : Type 1} → statement M
+wide-of-spec =
     tie.close
     (tie.spec
-    (λ c κs. search chain)
-    (λ c. search chain)
-    (λ c. search chain)
-    (λ c. search chain)
     (λ c κs. search chain)
     (λ c. search chain)
     (λ c. search chain)

@@ -1,8 +1,8 @@
 -- The header is there, or nothing is found.
 use Rattle.targets.specs.Targets.{wideRowAt}
-use Rattle.targets.proofs.Laws.{cases}
-use Rattle.targets.proofs.find_wide_row.Statement.{statement}
-use Rattle.targets.proofs.find_wide_row.Tie as tie
+use Rattle.room_read.proofs.Records.{cases}
+use Rattle.wide_rows.proofs.find_wide_row.Statement.{statement}
+use Rattle.wide_rows.proofs.find_wide_row.Tie as tie
 
 pub find-wide-row-spec : {M : Type 1} → statement M
 unfolding wideRowAt
