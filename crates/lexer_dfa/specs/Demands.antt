@@ -23,8 +23,8 @@ use Rattle.state_run.specs.declared.StateScan.the-variants as state
 use Rattle.run_classify.proofs.classify.Reads as classify
 use Rattle.run_scan.proofs.scan.Reads as scan
 use Rattle.run_scan.proofs.scan_length.Reads as scan-length
-use Rattle.state_run.proofs.scan_ascii_run.Reads as scan-ascii-run
-use Rattle.state_run.proofs.scan_ascii_run_length.Reads as scan-ascii-run-length
+use Rattle.state_scan.proofs.scan_ascii_run.Reads as scan-ascii-run
+use Rattle.state_scan_length.proofs.scan_ascii_run_length.Reads as scan-ascii-run-length
 use Rattle.table.specs.Table.{Table, wordsOf, Fields}
 use Rattle.table.specs.Rules.{Rules}
 use Rattle.table.specs.Whole.{Fit}
