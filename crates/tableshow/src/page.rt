@@ -128,7 +128,11 @@ fn put_accepted(room: &[u32], accept: u32, page: &mut [u8], n: usize) -> usize
 {
     let behind_word = put_text(b": accept ", page, n);
     let behind_number = put_number(accept as u64, page, behind_word);
-    put_said(accept_records::accept_record(room, accept), page, behind_number)
+    put_said(
+        accept_records::accept_record(room, accept),
+        page,
+        behind_number,
+    )
 }
 
 fn put_accept(room: &[u32], accept: u32, page: &mut [u8], n: usize) -> usize
