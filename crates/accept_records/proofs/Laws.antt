@@ -13,7 +13,7 @@ use Rattle.room_read.specs.declared.Found.{Found}
 use Rattle.room_read.specs.declared.Found.the-variants.{At, Absent, Outside}
 use Rattle.room_read.specs.Room.{follow}
 use Rattle.room_read.proofs.Records.{held, listed-in-room, there, absent, outside}
-use Rattle.room_read.proofs.Parts.{span-there, span-absent, span-outside}
+use Rattle.room_read.proofs.Spans.{span-there, span-absent, span-outside}
 use Rattle.accepts.specs.Record.{placeOf, wholeTo, recordAt}
 
 -- a record is found only behind a header, in its section, which lies in the room

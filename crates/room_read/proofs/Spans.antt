@@ -1,26 +1,10 @@
--- The part of the room that goes with a record, itself or by its place and length: where there is none, it is empty. Assumes nothing.
+-- The part of the room that goes with a record, by its place and length: where there is none, it is empty. Assumes nothing.
 use Prim.Native.Nat.{ℕ}
 use mathlib.Core.Path.{_≡_, sym, _∙_}
-use mathlib.Core.List.{List}
-use denote.Ref.{RefT}
 use Rattle.room_read.specs.declared.Found.{Found}
 use Rattle.room_read.specs.declared.Found.the-variants.{At, Absent, Outside}
 use Rattle.room_read.specs.declared.Span.{Span}
 use Rattle.room_read.specs.Room.{follow}
-use Rattle.room_read.specs.Part.{PartOf}
-
-module _ (room : RefT (List ℕ)) (x : Found) (f g : ℕ → ℕ) {got : Found} {part : RefT (List ℕ)} where
-  pub part-there : {p : ℕ} → got ≡ x → got ≡ At p → PartOf room (f p) (g p) part → PartOf room (follow x f 0 0) (follow x g 0 0) part
-  unfolding follow
-  part-there e h q = rw (sym e ∙ h) q
-
-  pub part-absent : got ≡ x → got ≡ Absent → PartOf room 0 0 part → PartOf room (follow x f 0 0) (follow x g 0 0) part
-  unfolding follow
-  part-absent e h q = rw (sym e ∙ h) q
-
-  pub part-outside : got ≡ x → got ≡ Outside → PartOf room 0 0 part → PartOf room (follow x f 0 0) (follow x g 0 0) part
-  unfolding follow
-  part-outside e h q = rw (sym e ∙ h) q
 
 module _ (x : Found) (f g : ℕ → ℕ) {got : Found} {span : Span} where
   pub span-there : {p : ℕ} → got ≡ x → got ≡ At p → span ≡ record { from = f p; length = g p } → span ≡ record { from = follow x f 0 0; length = follow x g 0 0 }
