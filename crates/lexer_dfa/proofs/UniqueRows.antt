@@ -8,7 +8,7 @@ use Rattle.transitions.proofs.Records as transitions
 use Rattle.segments.proofs.char_segments.Reads as char-segments
 use Rattle.segments.proofs.Answers as segments
 use Rattle.masks.proofs.segment_mask_matrix.Reads as segment-mask-matrix
-use Rattle.masks.proofs.distinct_masks.Reads as distinct-masks
+use Rattle.distinct_masks.proofs.distinct_masks.Reads as distinct-masks
 use Rattle.masks.proofs.Answers as masks
 use Rattle.pools.proofs.intern_ascii.Reads as intern-ascii
 use Rattle.pools.proofs.intern_wide.Reads as intern-wide

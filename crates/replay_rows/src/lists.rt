@@ -79,7 +79,7 @@ fn distinct_of(list: &[u8]) -> Answer {
     let mut segments = [1u32; 4096];
     let mut masks = [1u64; 8192];
     let mut out = [1u64; 8192];
-    let answer = masks::distinct_masks(list, &mut segments, &mut masks, &mut out);
+    let answer = distinct_masks::distinct_masks(list, &mut segments, &mut masks, &mut out);
     masked(answer, check::of_masks(check::NONE, &out).sums)
 }
 

@@ -28,8 +28,9 @@ use Rattle.masks.specs.declared.Places.the-variants as place
 use Rattle.masks.specs.Masks.{maskOf, masksAt, matrix, flat, isZero, index, distinctOf, placeOf, placesIn, placesOf}
 use Rattle.masks.specs.Answer.{told, parseDistinct, parsePlaces, foundIn, masksIn, placedIn, Placed}
 use Rattle.masks.proofs.Keeps.{place-some, place-none}
-use Rattle.masks.proofs.Distincts.{length-places, few-distinct}
-use Rattle.masks.proofs.Answers.{length-masks, accepted-list, roomy-places}
+use Rattle.distinct_masks.proofs.Distincts.{length-places, few-distinct}
+use Rattle.masks.proofs.Answers.{length-masks}
+use Rattle.distinct_masks.proofs.Answers.{accepted-list, roomy-places}
 use Rattle.row_laws.specs.Row.{Row, DEAD, numbers, rowFrom, rowOver, segment, join, partFrom, asciiPart, widePart}
 use Rattle.row_laws.specs.Build.{given, targetOf, contOf, targetRow, contRow}
 use Rattle.row_laws.proofs.Built as built

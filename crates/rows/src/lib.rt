@@ -469,7 +469,7 @@ pub fn build_rows(
 {
     clear_rows(ascii, wide, escape);
     let mut places = [0u32; 2048];
-    match masks::place_masks(list, segments, masks, distinct, &mut places) {
+    match distinct_masks::place_masks(list, segments, masks, distinct, &mut places) {
         Places::Found {
             segments: count,
             masks: d,

@@ -141,5 +141,5 @@ pub extern "C" fn lexer_dfa_distinct_masks(
 ) -> CMasks
     ensures { λ r. ⌜ DistinctInC r (length (now (segments .entry))) (now (segments .exit)) (length (now (masks .entry))) (now (masks .exit)) (length (now (distinct .entry))) (now (distinct .exit)) (masking.parseDistinct (length (now (segments .entry))) (length (now (masks .entry))) (length (now (distinct .entry))) (now (list .entry))) ⌝ }
 {
-    masks_in_c(masks::distinct_masks(list, segments, masks, distinct))
+    masks_in_c(distinct_masks::distinct_masks(list, segments, masks, distinct))
 }

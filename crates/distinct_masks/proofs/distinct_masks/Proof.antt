@@ -1,7 +1,7 @@
 -- What the call with places leaves, without them.
-use Rattle.masks.proofs.Answers.{distincts}
-use Rattle.masks.proofs.distinct_masks.Statement.{statement}
-use Rattle.masks.proofs.distinct_masks.Tie as tie
+use Rattle.distinct_masks.proofs.Answers.{distincts}
+use Rattle.distinct_masks.proofs.distinct_masks.Statement.{statement}
+use Rattle.distinct_masks.proofs.distinct_masks.Tie as tie
 
 pub distinct-masks-spec : {M : Type 1} → statement M
 distinct-masks-spec =

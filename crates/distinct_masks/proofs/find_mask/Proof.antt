@@ -3,11 +3,11 @@ use Prim.Native.Nat.{_+_, _*_, _≤_}
 use mathlib.Core.Path.{_≡_}
 use native.Mathlib.Omega.{arith}
 use lib.ListN.{length, take, drop}
 use Rattle.masks.specs.Masks.{index}
-use Rattle.masks.specs.Walk.{chunks}
-use Rattle.masks.proofs.Distincts.{finding, one-there}
-use Rattle.masks.proofs.find_mask.Statement.{statement}
-use Rattle.masks.proofs.find_mask.Tie as tie
+use Rattle.distinct_masks.specs.Walk.{chunks}
+use Rattle.distinct_masks.proofs.Distincts.{finding, one-there}
+use Rattle.distinct_masks.proofs.find_mask.Statement.{statement}
+use Rattle.distinct_masks.proofs.find_mask.Tie as tie
 
 abbrev Inv-loop : tie.InvT-loop
 Inv-loop known d masks at words left₀ p₀ i₀ left p i =

@@ -1,7 +1,7 @@
 -- The buffers are cleared, and filled where the list is accepted.
-use Rattle.masks.proofs.Answers.{placing, distinct-spaced}
-use Rattle.masks.proofs.place_masks.Statement.{statement}
-use Rattle.masks.proofs.place_masks.Tie as tie
+use Rattle.distinct_masks.proofs.Answers.{placing, distinct-spaced}
+use Rattle.distinct_masks.proofs.place_masks.Statement.{statement}
+use Rattle.distinct_masks.proofs.place_masks.Tie as tie
 
 pub place-masks-spec : {M : Type 1} → statement M
 place-masks-spec =
