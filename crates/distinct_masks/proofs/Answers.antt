@@ -24,7 +24,7 @@ use Rattle.masks.specs.declared.Masks.the-variants.{Count, Refused}
 use Rattle.masks.specs.declared.Places.{Places}
 use Rattle.masks.specs.declared.Places.the-variants as place
 use Rattle.masks.specs.Masks.{wordsFor, masksAt, matrix, flat, distinct, distinctOf, placesIn, placesOf}
-use Rattle.distinct_masks.specs.Walk.{chunks, Gathered, Spaced}
+use Rattle.distinct_masks.specs.Walk.{chunks, Gathered, Spaced, Zeroed, Cleared}
 use Rattle.masks.specs.Answer.{said, told, parseMasks, parseDistinct, parsePlaces, counted, foundIn, masksIn, placedIn, Matrix, Distinct, Placed}
 use Rattle.masks.proofs.Answers.{few-from, length-mask, length-masks, roomy, short}
 use Rattle.distinct_masks.proofs.Distincts.{Wide, length-flat, chunks-flat, wide-distinct, few-distinct, length-places}
@@ -85,7 +85,70 @@ unfolding counted masksIn foundIn placedIn
 no-masks s n d q (parsed ts) r ns ms out ps e a b o p = let z : _≡_ {A = ℕ} 0 1 = cc in absurd (omega arith)
 no-masks s n d q (refused k p) r ns ms out ps e a b o z = record { says = e; low-high = a; each = b; once = o; leaves = z }
 
--- both rooms are asked for at once
+-- The masks of the list stand: their distinct ones and places, into buffers that hold zeros
+
+module _ (w a b d q : List ℕ) (z : Cleared d q) {got : Masks} {ns ms : List ℕ} (g : Matrix got (length a) ns (length b) ms (parseMasks (length a) (length b) w)) where
+  module _ {c k : ℕ} (i : got ≡ Count c k) where
+    of : Each (length a) (length b) w c k ms
+    of = each (length a) (length b) w c k ms (parseMasks (length a) (length b) w) refl (ap said (sym i) ∙ g .says) (g .leaves)
+
+    abbrev us : List Transition
+    us = of .ts
+
+    rows : Wide k (matrix us)
+    rows = subst (λ (j : ℕ). Wide j (matrix us)) (sym (of .words)) (wide-masks us (starts (cutsOf us)))
+
+    four : k ≤ 4
+    four = omega (arith, of .words, few-of w us (of .good) .0)
+
+    many : c ≤ 2047
+    many = omega (arith, of .masks, length-masks us (starts (cutsOf us)), few-of w us (of .good) .1)
+
+    all-words : length (flat (matrix us)) ≡ c * k
+    all-words = length-flat k (matrix us) rows ∙ ap (λ (j : ℕ). j * k) (sym (of .masks))
+
+    pub distinct-spaced : Spaced ms c k d q
+    unfolding padded
+    distinct-spaced =
+        record {
+          some = omega (arith, all-words, ap length (of .leaves), length-append (flat (matrix us)) (zeros (length b - length (flat (matrix us)))));
+          room = omega (arith, all-words, few-wide k (matrix us) four rows, of .masks, many, z .room);
+          each = omega (arith, many, z .each);
+          few = many;
+        }
+
+    front : chunks c k ms ≡ matrix us
+    unfolding padded
+    front = ap₂ (λ (j : ℕ) (t : List ℕ). chunks j k t) (of .masks) (of .leaves) ∙ chunks-flat k (matrix us) (zeros (length b - length (flat (matrix us)))) rows
+
+    pub distinct-found : {r : ℕ} {out ps : List ℕ} → Gathered (chunks c k ms) d r out q ps →
+        Placed (place.Found c r k) (length a) ns (length b) ms (length d) out (length q) ps (parseMasks (length a) (length b) w)
+    unfolding foundIn masksIn placedIn
+    distinct-found {r} {out} {ps} s =
+        let ds : List (List ℕ) = distinctOf us in
+        let is : distinct [] (chunks c k ms) ≡ ds = ap (distinct []) front in
+        let fits : length (flat ds) ≤ length d =
+        omega (arith, few-wide k ds four (wide-distinct k [] (matrix us) tt rows), few-distinct [] (matrix us), of .masks, many, z .room) in
+        let left : out ≡ padded (length d) (flat ds) =
+        s .masks .is ∙ ap₂ (λ (l : List (List ℕ)) (o : List ℕ). lay 0 (flat l) o) is (z .once) ∙ lay-zeros (length d) (flat ds) fits in
+        let fit : length (placesOf us) ≤ length q = omega (arith, length-places ds (matrix us), of .masks, many, z .each) in
+        let stands : ps ≡ padded (length q) (placesOf us) =
+        s .places ∙ ap₂ (λ (l : List (List ℕ)) (o : List ℕ). lay 0 (placesIn (distinct [] l) l) o) front (z .leaves) ∙ lay-zeros (length q) (placesOf us) fit in
+        let size : c ≡ length (starts (cutsOf us)) = of .masks ∙ length-masks us (starts (cutsOf us)) in
+        let says : told (place.Found c r k) ≡ foundIn (parsed us) =
+        ap₂ {C = Said} (λ x l. ok (x ∷ l)) size (ap₂ {C = List ℕ} (λ x y. x ∷ y ∷ []) (s .masks .count ∙ ap length is) (of .words)) in
+        rw (of .is)
+        (record { says = says; low-high = g .low-high ∙ ap (segmentsIn (length a)) (of .is); each = of .leaves; once = left; leaves = stands })
+
+  pub distinct-refused : {r : Refusal} → got ≡ Refused r →
+      Placed (place.Refused r) (length a) ns (length b) ms (length d) d (length q) q (parseMasks (length a) (length b) w)
+  distinct-refused {r} i =
+      no-masks (length a) (length b) (length d) (length q) (parseMasks (length a) (length b) w) r ns ms d q (ap said (sym i) ∙ g .says) (g .low-high) (g .leaves) (z .once) (z .leaves)
+
+pub ruleset filling = (needs, distinct-spaced, distinct-found, distinct-refused)
+
+-- Both rooms are asked for at once
+
 pub short-first : (out places : ℕ) → out < 8192 → true ≡ (ltb out 8192 || ltb places 2048)
 short-first out places h = rw (lt-ltb out 8192 h)
 
@@ -110,96 +173,43 @@ none-of-both true y e = absurd (false≢true (sym e))
 none-of-both false y e = (refl, e)
 
 -- the buffers for distinct masks and places were cleared first
-module _ (w a b e f : List ℕ) {d q : List ℕ} (z : (d ≡ zeros (length e)) × (q ≡ zeros (length f))) where
-  abbrev all-of : Parsed
-  all-of = parsePlaces (length a) (length b) (length e) (length f) w
-
+module _ (e f : List ℕ) {d q : List ℕ} (z : Zeroed e d f q) where
   long : length d ≡ length e
-  long = ap length (z .0) ∙ length-replicate (length e) 0
+  long = ap length (z .words) ∙ length-replicate (length e) 0
 
   as-long : length q ≡ length f
-  as-long = ap length (z .1) ∙ length-replicate (length f) 0
+  as-long = ap length (z .numbers) ∙ length-replicate (length f) 0
 
   module _ {t : Bool} (u : t ≡ (ltb (length d) 8192 || ltb (length q) 2048)) where
     test : (ltb (length e) 8192 || ltb (length f) 2048) ≡ t
     test = ap₂ (λ (x y : ℕ). ltb x 8192 || ltb y 2048) (sym long) (sym as-long) ∙ sym u
 
-    pub none-room : {ns ms : List ℕ} → t ≡ true → (ms ≡ zeros (length b)) × (ns ≡ zeros (length a)) →
-        Placed (place.Refused (record { number = ROOM; place = 0 })) (length a) ns (length b) ms (length e) d (length f) q (parsePlaces (length a) (length b) (length e) (length f) w)
-    unfolding parsePlaces parseDistinct foundIn segmentsIn masksIn placedIn
-    none-room h s =
-        rw (room-true (ltb (length e) 8192) (ltb (length f) 2048) (parseMasks (length a) (length b) w) (test ∙ h))
-        (record { says = refl; low-high = s .1; each = s .0; once = z .0; leaves = z .1 })
+    pub all-cleared : t ≡ false → Cleared d q
+    all-cleared h =
+        let n = none-of-both (ltb (length d) 8192) (ltb (length q) 2048) (sym u ∙ h) in
+        record {
+          once = z .words ∙ ap zeros (sym long);
+          leaves = z .numbers ∙ ap zeros (sym as-long);
+          room = ltb-false (length d) 8192 (n .0);
+          each = ltb-false (length q) 2048 (n .1);
+        }
 
-    module _ (h : t ≡ false) {got : Masks} {ns ms : List ℕ} (g : Matrix got (length a) ns (length b) ms (parseMasks (length a) (length b) w)) where
-      past-room : all-of ≡ parseMasks (length a) (length b) w
+    module _ (w a b : List ℕ) where
+      pub none-room : {ns ms : List ℕ} → t ≡ true → Zeroed b ms a ns →
+          Placed (place.Refused (record { number = ROOM; place = 0 })) (length a) ns (length b) ms (length e) d (length f) q (parsePlaces (length a) (length b) (length e) (length f) w)
+      unfolding parsePlaces parseDistinct foundIn segmentsIn masksIn placedIn
+      none-room h s =
+          rw (room-true (ltb (length e) 8192) (ltb (length f) 2048) (parseMasks (length a) (length b) w) (test ∙ h))
+          (record { says = refl; low-high = s .numbers; each = s .words; once = z .words; leaves = z .numbers })
+
+      pub placed : {got : Places} {ns ms out ps : List ℕ} → t ≡ false →
+          Placed got (length a) ns (length b) ms (length d) out (length q) ps (parseMasks (length a) (length b) w) →
+          Placed got (length a) ns (length b) ms (length e) out (length f) ps (parsePlaces (length a) (length b) (length e) (length f) w)
       unfolding parsePlaces parseDistinct
-      past-room = room-false (ltb (length e) 8192) (ltb (length f) 2048) (parseMasks (length a) (length b) w) (test ∙ h)
+      placed h g =
+          rw (room-false (ltb (length e) 8192) (ltb (length f) 2048) (parseMasks (length a) (length b) w) (test ∙ h), ← long, ← as-long) g
 
-      rooms : (8192 ≤ length e) × (2048 ≤ length f)
-      rooms =
-          let n = none-of-both (ltb (length e) 8192) (ltb (length f) 2048) (test ∙ h) in
-          (ltb-false (length e) 8192 (n .0), ltb-false (length f) 2048 (n .1))
-
-      module _ {c k : ℕ} (i : got ≡ Count c k) where
-        of : Each (length a) (length b) w c k ms
-        of = each (length a) (length b) w c k ms (parseMasks (length a) (length b) w) refl (ap said (sym i) ∙ g .says) (g .leaves)
-
-        abbrev us : List Transition
-        us = of .ts
-
-        rows : Wide k (matrix us)
-        rows = subst (λ (j : ℕ). Wide j (matrix us)) (sym (of .words)) (wide-masks us (starts (cutsOf us)))
-
-        four : k ≤ 4
-        four = omega (arith, of .words, few-of w us (of .good) .0)
-
-        many : c ≤ 2047
-        many = omega (arith, of .masks, length-masks us (starts (cutsOf us)), few-of w us (of .good) .1)
-
-        all-words : length (flat (matrix us)) ≡ c * k
-        all-words = length-flat k (matrix us) rows ∙ ap (λ (j : ℕ). j * k) (sym (of .masks))
-
-        pub distinct-spaced : Spaced ms c k d q
-        unfolding padded
-        distinct-spaced =
-            record {
-              some = omega (arith, all-words, ap length (of .leaves), length-append (flat (matrix us)) (zeros (length b - length (flat (matrix us)))));
-              room = omega (arith, all-words, few-wide k (matrix us) four rows, of .masks, many, rooms .0, long);
-              each = omega (arith, many, rooms .1, as-long);
-              few = many;
-            }
-
-        front : chunks c k ms ≡ matrix us
-        unfolding padded
-        front = ap₂ (λ (j : ℕ) (t : List ℕ). chunks j k t) (of .masks) (of .leaves) ∙ chunks-flat k (matrix us) (zeros (length b - length (flat (matrix us)))) rows
-
-        pub distinct-found : {r : ℕ} {out ps : List ℕ} → Gathered (chunks c k ms) d r out q ps →
-            Placed (place.Found c r k) (length a) ns (length b) ms (length e) out (length f) ps (parsePlaces (length a) (length b) (length e) (length f) w)
-        unfolding foundIn masksIn placedIn
-        distinct-found {r} {out} {ps} s =
-            let ds : List (List ℕ) = distinctOf us in
-            let is : distinct [] (chunks c k ms) ≡ ds = ap (distinct []) front in
-            let fits : length (flat ds) ≤ length e =
-            omega (arith, few-wide k ds four (wide-distinct k [] (matrix us) tt rows), few-distinct [] (matrix us), of .masks, many, rooms .0) in
-            let left : out ≡ padded (length e) (flat ds) =
-            s .masks .is ∙ ap₂ (λ (l : List (List ℕ)) (o : List ℕ). lay 0 (flat l) o) is (z .0) ∙ lay-zeros (length e) (flat ds) fits in
-            let fit : length (placesOf us) ≤ length f = omega (arith, length-places ds (matrix us), of .masks, many, rooms .1) in
-            let stands : ps ≡ padded (length f) (placesOf us) =
-            s .places ∙ ap₂ (λ (l : List (List ℕ)) (o : List ℕ). lay 0 (placesIn (distinct [] l) l) o) front (z .1) ∙ lay-zeros (length f) (placesOf us) fit in
-            let size : c ≡ length (starts (cutsOf us)) = of .masks ∙ length-masks us (starts (cutsOf us)) in
-            let says : told (place.Found c r k) ≡ foundIn (parsed us) =
-            ap₂ {C = Said} (λ x l. ok (x ∷ l)) size (ap₂ {C = List ℕ} (λ x y. x ∷ y ∷ []) (s .masks .count ∙ ap length is) (of .words)) in
-            rw (past-room, of .is)
-            (record { says = says; low-high = g .low-high ∙ ap (segmentsIn (length a)) (of .is); each = of .leaves; once = left; leaves = stands })
-
-      pub distinct-refused : {r : Refusal} → got ≡ Refused r →
-          Placed (place.Refused r) (length a) ns (length b) ms (length e) d (length f) q (parsePlaces (length a) (length b) (length e) (length f) w)
-      distinct-refused {r} i =
-          rw past-room
-          (no-masks (length a) (length b) (length e) (length f) (parseMasks (length a) (length b) w) r ns ms d q (ap said (sym i) ∙ g .says) (g .low-high) (g .leaves) (z .0) (z .1))
-
-pub ruleset placing = (needs, length-replicate, none-room, distinct-spaced, distinct-found, distinct-refused)
+pub ruleset placing = (needs, length-replicate, none-room, all-cleared, placed)
 
 -- The call without the places: its own buffer for them has room
 

@@ -2,15 +2,15 @@
 -- stand, m a mask of so many words. Assumes nothing.
 use mathlib.Core.Path.{_≡_, refl, sym, ap, ap₂, subst, _∙_}
 use mathlib.Core.List.{List, [], _∷_, _++_, append-assoc, append-nil}
-use mathlib.Core.Bool.{Bool, true, false}
+use mathlib.Core.Bool.{Bool, true, false, and-true}
 use Prim.Native.Nat.{ℕ, zero, suc, _+_, _*_, _-_, _<_, _≤_}
 use native.Mathlib.Nat.{suc-mul, mul-le-mul-right, zero-add}
 use native.Mathlib.Omega.{arith}
 use borrow.Author.Needs.{needs}
 use borrow.Author.Tests.{lt-ltb, le-ltb, eq-eqb, ne-eqb}
 use lib.Dec.{ltb, eqb}
-use lib.ListN.{length, take, drop, set, length-append, length-drop}
-use lib.Seq.{take-add, take-at, drop-at, drop-drop, length-take-le}
+use lib.ListN.{length, getD, take, drop, set, length-append, length-drop}
+use lib.Seq.{take-add, take-at, drop-at, drop-cons, drop-drop, length-take-le}
 use Rattle.refusal.specs.Lists.{pick}
 use Rattle.refusal.specs.Fixed.{NONE}
 use Rattle.written.specs.Over.{over, lay, Put}
@@ -81,6 +81,36 @@ module _ (known m : List ℕ) (left words p i : ℕ) {all : ℕ} (e : i + index 
   unfolding chunks index
   find-done n = let z : left ≡ 0 = omega arith in let f = rw z at e in omega arith
 
+-- The same for one word
+
+module _ (known : List ℕ) (d x i : ℕ) {all : ℕ} (e : i + index (chunks (d - i) 1 (drop i known)) (x ∷ []) ≡ all) (n : i < d) (h : d ≤ length known) where
+  abbrev others : ℕ
+  others = index (chunks (d - (i + 1)) 1 (drop (i + 1) known)) (x ∷ [])
+
+  open-word : index (chunks (d - i) 1 (drop i known)) (x ∷ []) ≡ pick (eqb (getD known i 0) x) 0 (suc others)
+  unfolding chunks index eqList
+  open-word =
+      let more : d - i ≡ suc (d - (i + 1)) = omega arith in
+      let one : suc i ≡ i + 1 = omega arith in
+      let there : i < length known = omega arith in
+      let is : drop i known ≡ getD known i 0 ∷ drop (i + 1) known = drop-cons known i 0 there ∙ ap (λ (k : ℕ). getD known i 0 ∷ drop k known) one in
+      ap₂ (λ (k : ℕ) (l : List ℕ). index (chunks k 1 l) (x ∷ [])) more is ∙ ap (λ (t : Bool). pick t 0 (suc others)) (and-true (eqb (getD known i 0) x))
+
+  pub word-hit : getD known i 0 ≡ x → i ≡ all
+  word-hit s = omega (arith, e, open-word ∙ ap (λ (t : Bool). pick t 0 (suc others)) (eq-eqb (getD known i 0) x s))
+
+  pub word-turn : (getD known i 0 ≡ x → ⊥) → i + 1 + index (chunks (d - (i + 1)) 1 (drop (i + 1) known)) (x ∷ []) ≡ all
+  word-turn s = omega (arith, e, open-word ∙ ap (λ (t : Bool). pick t 0 (suc others)) (ne-eqb (getD known i 0) x s))
+
+pub word-end : (known : List ℕ) (d x i : ℕ) {all : ℕ} → i + index (chunks (d - i) 1 (drop i known)) (x ∷ []) ≡ all → d ≤ i → i ≡ all
+unfolding chunks index
+word-end known d x i e n = let z : d - i ≡ 0 = omega arith in let f = rw z at e in omega arith
+
+pub word-start : (known : List ℕ) (d x : ℕ) → 0 + index (chunks (d - 0) 1 (drop 0 known)) (x ∷ []) ≡ index (chunks d 1 known) (x ∷ [])
+word-start known d x = let e : d - 0 ≡ d = omega arith in rw e (zero-add (index (chunks d 1 known) (x ∷ [])))
+
+pub ruleset wording = (needs, word-start, word-hit, word-turn, word-end)
+
 module _ (p left words : ℕ) {size : ℕ} (n : 0 < left) (h : p + left * words ≤ size) where
   pub one-more : p + words + (left - 1) * words ≤ size
   one-more =
@@ -96,7 +126,17 @@ all-there left words h = omega arith
 pub find-start : (known m : List ℕ) (d words : ℕ) → 0 + index (chunks d words (drop 0 known)) m ≡ index (chunks d words known) m
 find-start known m d words = zero-add (index (chunks d words known) m)
 
-pub ruleset finding = (needs, all-there, find-start, one-more, one-there, find-hit, find-turn, find-done)
+module _ (known ms : List ℕ) (d at words : ℕ) (o : words ≡ 1) where
+  pub one-word : d * words ≤ length known → d ≤ length known
+  one-word h = omega (arith, ap (λ (k : ℕ). d * k) o)
+
+  pub find-word : {r : ℕ} → at + words ≤ length ms → r ≡ index (chunks d 1 known) (getD ms at 0 ∷ []) → r ≡ index (chunks d words known) (take words (drop at ms))
+  find-word h e =
+      let there : at < length ms = omega arith in
+      let is : take 1 (drop at ms) ≡ getD ms at 0 ∷ [] = ap (take 1) (drop-cons ms at 0 there) in
+      rw (o, is) e
+
+pub ruleset finding = (needs, one-word, find-word, all-there, find-start, one-more, one-there, find-hit, find-turn, find-done)
 
 -- A mask is put behind the others, or not
 

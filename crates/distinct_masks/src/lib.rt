@@ -1,14 +1,15 @@
 // The distinct ones among the masks of a list's segments, and where each segment's mask stands among them.
 ghost use mathlib.Core.Path.{_≡_};
+ghost use mathlib.Core.List.{[], _∷_};
 ghost use mathlib.Core.Bool.{_||_};
 ghost use Prim.Native.Nat.{_+_, _*_, _≤_, _<_};
 ghost use lib.Dec.{eqb, ltb};
 ghost use lib.ListN.{length, take, drop};
 ghost use Rattle.refusal.specs.Lists.{pick};
-ghost use Rattle.written.specs.Over.{Put, zeros};
+ghost use Rattle.written.specs.Over.{Put};
 ghost use Rattle.masks.specs.Masks.{isZero, eqList, index};
-ghost use Rattle.distinct_masks.specs.Walk.{chunks, Entered, Gathered, Spaced};
-ghost use Rattle.masks.specs.Answer.{parseDistinct, parsePlaces, Distinct, Placed};
+ghost use Rattle.distinct_masks.specs.Walk.{chunks, Entered, Gathered, Spaced, Zeroed, Cleared};
+ghost use Rattle.masks.specs.Answer.{parseMasks, parseDistinct, parsePlaces, Distinct, Placed};
 use masks::Masks;
 use masks::Places;
 use masks::WORDS;
@@ -56,12 +57,30 @@ fn same_at(known: &[u64], p: usize, masks: &[u64], at: usize, words: usize) -> b
     true
 }
 
-// The place of the mask at `at` among the first d of the known ones, or d.
+// The place of a word among the first d of the known ones, or d.
+fn find_word(known: &[u64], d: usize, x: u64) -> usize
+    requires { ⌜ d ≤ length (now known) ⌝ }
+    ensures { λ r. ⌜ r ≡ index (chunks d 1 (now (known .entry))) (x ∷ []) ⌝ }
+{
+    let mut i: usize = 0;
+    while i < d {
+        if known[i] == x {
+            return i;
+        }
+        i += 1;
+    }
+    i
+}
+
+// The place of the mask at `at` among the first d of the known ones, or d. Masks of one word, the most common ones, need no loop over words.
 fn find_mask(known: &[u64], d: usize, masks: &[u64], at: usize, words: usize) -> usize
     requires some { ⌜ d * words ≤ length (now known) ⌝ }
     requires one { ⌜ at + words ≤ length (now masks) ⌝ }
     ensures { λ r. ⌜ r ≡ index (chunks d words (now (known .entry))) (take words (drop at (now (masks .entry)))) ⌝ }
 {
+    if words == 1 {
+        return find_word(known, d, masks[at]);
+    }
     let mut left = d;
     let mut p: usize = 0;
     let mut i: usize = 0;
@@ -149,7 +168,7 @@ fn put_distinct(
 }
 
 fn clear_both(words: &mut [u64], numbers: &mut [u32])
-    ensures { λ _. ⌜ (now (words .exit) ≡ zeros (length (now (words .entry)))) × (now (numbers .exit) ≡ zeros (length (now (numbers .entry)))) ⌝ }
+    ensures { λ _. ⌜ Zeroed (now (words .entry)) (now (words .exit)) (now (numbers .entry)) (now (numbers .exit)) ⌝ }
 {
     written::clear_words(words);
     written::clear(numbers);
@@ -162,6 +181,33 @@ fn too_short(out: usize, places: usize) -> bool
         return true;
     }
     places < PLACES
+}
+
+// The masks of a list and their places, where the buffers for distinct masks and places are long enough and hold zeros.
+fn fill_places(
+    list: &[u8],
+    segments: &mut [u32],
+    masks: &mut [u64],
+    out: &mut [u64],
+    places: &mut [u32],
+) -> Places
+    requires { ⌜ Cleared (now out) (now places) ⌝ }
+    ensures { λ r. ⌜ Placed r (length (now (segments .entry))) (now (segments .exit)) (length (now (masks .entry))) (now (masks .exit)) (length (now (out .entry))) (now (out .exit)) (length (now (places .entry))) (now (places .exit)) (parseMasks (length (now (segments .entry))) (length (now (masks .entry))) (now (list .entry))) ⌝ }
+{
+    match masks::segment_mask_matrix(list, segments, masks) {
+        Masks::Count {
+            masks: count,
+            words,
+        } => {
+            let d = put_distinct(masks, count, words, out, places);
+            Places::Found {
+                segments: count,
+                masks: d,
+                words,
+            }
+        }
+        Masks::Refused(r) => Places::Refused(r),
+    }
 }
 
 // The segments of a list, the mask of each, the distinct ones of those that are not empty, in order of first segment, and for each segment
@@ -184,20 +230,7 @@ pub fn place_masks(
             place: 0,
         });
     }
-    match masks::segment_mask_matrix(list, segments, masks) {
-        Masks::Count {
-            masks: count,
-            words,
-        } => {
-            let d = put_distinct(masks, count, words, out, places);
-            Places::Found {
-                segments: count,
-                masks: d,
-                words,
-            }
-        }
-        Masks::Refused(r) => Places::Refused(r),
-    }
+    fill_places(list, segments, masks, out, places)
 }
 
 // The same without the places.

@@ -25,6 +25,10 @@ find-mask-spec =
     Inv-loop
     μ-loop
     (λ c. search finding)
+    (λ c. search finding)
+    (λ c κs. search finding)
+    (λ c. search finding)
+    (λ c. search finding)
     (λ c κs. search finding)
     (λ c. search finding)
     (λ c. omega (arith, one-there _ _ _ (c .before .before .loop-test .taken) (c .before .before .before .loop .inv .0)))
