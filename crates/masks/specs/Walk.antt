@@ -1,12 +1,14 @@
 -- How the code walks: over records, over their pairs, and over segments. w is the list's bytes, ns the numbers of a buffer, k how many are
 -- left. Assumes nothing.
-use Prim.Native.Nat.{ℕ, zero, suc, _+_, _*_, _^_, _≤_, _<_}
+use Prim.Native.Nat.{ℕ, zero, suc, _+_, _*_, _-_, _^_, _≤_, _<_}
 use mathlib.Core.Path.{_≡_}
-use mathlib.Core.Bool.{true}
+use mathlib.Core.Bool.{Bool, true}
 use mathlib.Core.List.{List, [], _∷_}
 use lib.ListN.{length, getD}
-use Rattle.transitions.specs.Transition.{Transition, holds, holdAt, inOrder}
-use Rattle.transitions.specs.Bytes.{sizeAt, numberAt, shapeOf}
+use lib.Dec.{leb, ltb}
+use Rattle.refusal.specs.Lists.{pick}
+use Rattle.transitions.specs.Transition.{Transition, origin, anyHas, holds, holdAt, inOrder}
+use Rattle.transitions.specs.Bytes.{sizeAt, numberAt, pairsAt, shapeOf}
 use Rattle.transitions.specs.Walk.{transAt, nextAt}
 use Rattle.masks.specs.Masks.{bit, wordOf}
 
@@ -28,8 +30,9 @@ lowAt w p i = numberAt w (p + 8 * i)
 abbrev pub highAt : List ℕ → ℕ → ℕ → ℕ
 highAt w p i = numberAt w (p + 8 * i + 4)
 
--- each of n pairs ends behind those before it
+-- each of n pairs starts and ends behind those before it
 pub record Rises (w : List ℕ) (n p : ℕ) : Type 0 where
+  pub apart : (i k : ℕ) → i < k → k < n → highAt w p i < lowAt w p k
   pub each : (i k : ℕ) → i < k → k < n → highAt w p i < highAt w p k
 
 -- r of n pairs end before the key q ..
@@ -41,6 +44,31 @@ pub record Passed (w : List ℕ) (n p q r : ℕ) : Type 0 where
 pub record Reach (w : List ℕ) (n p q r : ℕ) : Type 0 where
   pub passed : Passed w n p q r
   pub after : r < n → q ≤ highAt w p r
+
+-- r is the key just behind the last of the first j pairs, or 0
+pub record Floor (w : List ℕ) (p j r : ℕ) : Type 0 where
+  pub none : j ≡ 0 → r ≡ 0
+  pub some : 0 < j → r ≡ highAt w p (j - 1) + 1
+
+-- one of n pairs holds a key from floor to high just where it is not below low, and q is such a key
+pub record Spans (w : List ℕ) (n p q floor low high : ℕ) : Type 0 where
+  pub from : floor ≤ q
+  pub to : q ≤ high
+  pub each : (k : ℕ) → floor ≤ k → k ≤ high → anyHas (pairsAt w n p) k ≡ leb low k
+
+-- by the tag: not-sets and wildcards hold what no pair does
+unfoldable pub byLow : ℕ → ℕ → ℕ → Bool
+byLow tag low q = pick (leb 4 tag) (ltb q low) (leb low q)
+
+-- the transition holds just those of the points with a key from floor to high ..
+pub record Tells (t : Transition) (tag floor low high : ℕ) : Type 0 where
+  pub each : (point : ℕ) → floor ≤ point + origin → point + origin ≤ high → holds t point ≡ byLow tag low (point + origin)
+
+-- .. and q is such a key
+pub record Covers (t : Transition) (tag q floor low high : ℕ) : Type 0 where
+  pub tells : Tells t tag floor low high
+  pub from : floor ≤ q
+  pub to : q ≤ high
 
 -- the first points of k segments from `at` on, which stand as low, high
 unfoldable pub lows : List ℕ → ℕ → ℕ → List ℕ

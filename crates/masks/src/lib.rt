@@ -6,12 +6,12 @@ ghost use Prim.Native.Nat.{_+_, _*_, _/_, _≤_, _<_, min};
 ghost use lib.Dec.{eqb};
 ghost use lib.ListN.{length};
 ghost use Rattle.written.specs.Over.{lay, Put, zeros};
-ghost use Rattle.transitions.specs.Transition.{origin, pairHas, anyHas, holds, holdAt, orderly, inOrder};
-ghost use Rattle.transitions.specs.Bytes.{numberAt, sizeAt, pairsAt, shapeOf, transOf};
+ghost use Rattle.transitions.specs.Transition.{origin, atom, holds, holdAt, inOrder};
+ghost use Rattle.transitions.specs.Bytes.{numberAt, sizeAt, shapeOf, transOf};
 ghost use Rattle.transitions.specs.Read.{parse, accepted};
 ghost use Rattle.transitions.specs.Walk.{transAt, transFrom};
 ghost use Rattle.masks.specs.Masks.{bit, wordOf, maskOf, masksAt, flat};
-ghost use Rattle.masks.specs.Walk.{Fit, nextOf, Rises, Passed, Reach, lows, column, Columned};
+ghost use Rattle.masks.specs.Walk.{Fit, nextOf, Rises, Passed, Reach, Floor, Spans, byLow, Tells, Covers, lows, column, Columned};
 ghost use Rattle.masks.specs.Answer.{parseMasks, Matrix, Ready};
 use refusal::ROOM;
 use refusal::Refusal;
@@ -23,6 +23,14 @@ const ORIGIN: u64 = 2147483648;
 
 // Words of the most masks that a list may have, with some to spare.
 pub const WORDS: usize = 8192;
+
+// Keys from `floor` to `high`, none of which a record's pairs part but at `low`: a pair holds those not below it. `pairs` of them end before.
+struct Span {
+    pairs: usize,
+    floor: u64,
+    low: u64,
+    high: u64,
+}
 
 // How many masks there are, and of how many words each, or why there are none.
 pub enum Masks {
@@ -58,6 +66,12 @@ fn number_at(list: &[u8], p: usize) -> u64
     (a + 256 * b + 65536 * c + 16777216 * d + ORIGIN) % 4294967296
 }
 
+fn key_of(point: u32) -> u64
+    ensures { λ r. ⌜ (r ≡ point + origin) × (r ≤ 8589934592) ⌝ }
+{
+    (point as u64) + ORIGIN
+}
+
 fn size_at(list: &[u8], p: usize) -> usize
     requires { ⌜ p + 2 ≤ length (now list) ⌝ }
     ensures { λ r. ⌜ (r ≡ sizeAt (now (list .entry)) p) × (r < 65536) ⌝ }
@@ -65,15 +79,6 @@ fn size_at(list: &[u8], p: usize) -> usize
     let a = wide(list[p]);
     let b = wide(list[p + 1]);
     (a + 256 * b) as usize
-}
-
-fn pair_has(low: u64, high: u64, q: u64) -> bool
-    ensures { λ r. ⌜ r ≡ pairHas low high q ⌝ }
-{
-    if low <= q {
-        return q <= high;
-    }
-    false
 }
 
 // How many of n ascending pairs from p surely end before the key q: as many as the hint says, if the last of these does, or none.
@@ -110,79 +115,118 @@ fn seek(list: &[u8], p: usize, n: usize, q: u64, hint: usize) -> usize
     j
 }
 
-fn seek_point(list: &[u8], p: usize, n: usize, point: u32, hint: usize) -> usize
+// The key before which all of the first j of n pairs from p end, and the last of them just before; 0, if there are none.
+fn floor_at(list: &[u8], p: usize, n: usize, j: usize) -> u64
+    requires bytes { ⌜ p + 8 * n ≤ length (now list) ⌝ }
+    requires within { ⌜ j ≤ n ⌝ }
+    ensures { λ r. ⌜ Floor (now (list .entry)) p j r ⌝ }
+{
+    if j == 0 {
+        return 0;
+    }
+    number_at(list, p + 8 * (j - 1) + 4) + 1
+}
+
+// The keys about q, by n ascending pairs from p: up to the end of the first pair that reaches q, or all, if none does.
+fn pair_span(list: &[u8], p: usize, n: usize, q: u64, hint: usize) -> Span
     requires bytes { ⌜ p + 8 * n ≤ length (now list) ⌝ }
     requires order { ⌜ Rises (now list) n p ⌝ }
-    ensures { λ r. ⌜ Reach (now (list .entry)) n p (point + origin) r ⌝ }
+    requires key { ⌜ q ≤ 8589934592 ⌝ }
+    ensures { λ r. ⌜ Spans (now (list .entry)) n p q (r .floor) (r .low) (r .high) ⌝ }
 {
-    seek(list, p, n, (point as u64) + ORIGIN, hint)
-}
-
-// Does one of n pairs in order hold the key q, before which j of them end?
-fn meets(list: &[u8], p: usize, n: usize, q: u64, j: usize) -> bool
-    requires bytes { ⌜ p + 8 * n ≤ length (now list) ⌝ }
-    requires order { ⌜ orderly 0 (pairsAt (now list) n p) ≡ true ⌝ }
-    requires reach { ⌜ Reach (now list) n p q j ⌝ }
-    ensures { λ r. ⌜ r ≡ anyHas (pairsAt (now (list .entry)) n p) q ⌝ }
-{
+    let j = seek(list, p, n, q, hint);
+    let floor = floor_at(list, p, n, j);
     if j < n {
-        if number_at(list, p + 8 * j) <= q {
-            return true;
-        }
+        let low = number_at(list, p + 8 * j);
+        let high = number_at(list, p + 8 * j + 4);
+        return Span {
+            pairs: j,
+            floor,
+            low,
+            high,
+        };
     }
-    false
-}
-
-fn flip(b: bool) -> bool
-    ensures { λ r. ⌜ r ≡ not b ⌝ }
-{
-    if b {
-        return false;
+    Span {
+        pairs: j,
+        floor,
+        low: 8589934593,
+        high: 8589934592,
     }
-    true
 }
 
-fn same(a: u64, b: u64) -> bool
-    ensures { λ r. ⌜ r ≡ eqb a b ⌝ }
+// The keys about q, by an atom.
+fn atom_span(x: u64, q: u64) -> Span
+    requires number { ⌜ x < 4294967296 ⌝ }
+    requires key { ⌜ q ≤ 8589934592 ⌝ }
+    ensures { λ r. ⌜ Covers (atom x) 1 q (r .floor) (r .low) (r .high) ⌝ }
 {
-    a == b
+    if q <= x {
+        return Span {
+            pairs: 0,
+            floor: 0,
+            low: x,
+            high: x,
+        };
+    }
+    Span {
+        pairs: 0,
+        floor: x + 1,
+        low: 8589934593,
+        high: 8589934592,
+    }
 }
 
-// Does the transition of a record hold the point? Its value, of `size` bytes, starts at p, and j of its pairs end before the point.
-fn holds_at(list: &[u8], tag: u8, size: usize, p: usize, point: u32, j: usize) -> bool
+// The keys about q, by a record of `size` bytes from p. A good hint, how many of its pairs end before q, saves the way.
+fn find_span(list: &[u8], tag: u8, size: usize, p: usize, q: u64, hint: usize) -> Span
     requires bytes { ⌜ p + size ≤ length (now list) ⌝ }
     requires fits { ⌜ shapeOf tag size ≡ true ⌝ }
     requires order { ⌜ inOrder (transOf (now list) tag size p) ≡ true ⌝ }
-    requires reach { ⌜ Reach (now list) (size / 8) p (point + origin) j ⌝ }
-    ensures { λ r. ⌜ r ≡ holds (transOf (now (list .entry)) tag size p) point ⌝ }
+    requires key { ⌜ q ≤ 8589934592 ⌝ }
+    ensures { λ r. ⌜ Covers (transOf (now (list .entry)) tag size p) tag q (r .floor) (r .low) (r .high) ⌝ }
 {
-    let q = (point as u64) + ORIGIN;
     if tag == 1 {
-        return same(number_at(list, p), q);
+        return atom_span(number_at(list, p), q);
     }
-    if tag == 2 {
-        let low = number_at(list, p);
-        let high = number_at(list, p + 4);
-        return pair_has(low, high, q);
-    }
-    if tag == 3 {
-        return meets(list, p, size / 8, q, j);
-    }
-    if tag == 4 {
-        return flip(meets(list, p, size / 8, q, j));
-    }
-    true
+    pair_span(list, p, size / 8, q, hint)
 }
 
-// The same, sought from the first pair.
+// The same, if those found last are not about q too.
+fn span_at(list: &[u8], tag: u8, size: usize, p: usize, q: u64, last: Span) -> Span
+    requires bytes { ⌜ p + size ≤ length (now list) ⌝ }
+    requires fits { ⌜ shapeOf tag size ≡ true ⌝ }
+    requires order { ⌜ inOrder (transOf (now list) tag size p) ≡ true ⌝ }
+    requires key { ⌜ q ≤ 8589934592 ⌝ }
+    requires known { ⌜ Tells (transOf (now list) tag size p) tag (last .floor) (last .low) (last .high) ⌝ }
+    ensures { λ r. ⌜ Covers (transOf (now (list .entry)) tag size p) tag q (r .floor) (r .low) (r .high) ⌝ }
+{
+    if last.floor <= q {
+        if q <= last.high {
+            return last;
+        }
+    }
+    find_span(list, tag, size, p, q, last.pairs)
+}
+
+// Is a key held that lies in a span with this low?
+fn held(tag: u8, low: u64, q: u64) -> bool
+    ensures { λ r. ⌜ r ≡ byLow tag low q ⌝ }
+{
+    if 4 <= tag {
+        return q < low;
+    }
+    low <= q
+}
+
+// Does the transition of a record hold the point? Its value, of `size` bytes, starts at p.
 fn holds_from(list: &[u8], tag: u8, size: usize, p: usize, point: u32) -> bool
     requires bytes { ⌜ p + size ≤ length (now list) ⌝ }
     requires fits { ⌜ shapeOf tag size ≡ true ⌝ }
     requires order { ⌜ inOrder (transOf (now list) tag size p) ≡ true ⌝ }
     ensures { λ r. ⌜ r ≡ holds (transOf (now (list .entry)) tag size p) point ⌝ }
 {
-    let j = seek_point(list, p, size / 8, point, 0);
-    holds_at(list, tag, size, p, point, j)
+    let q = key_of(point);
+    let span = find_span(list, tag, size, p, q, 0);
+    held(tag, span.low, q)
 }
 
 fn bit_of(b: bool) -> u64
@@ -253,8 +297,8 @@ fn put_mask(list: &[u8], n: usize, point: u32, out: &mut [u64], k: usize) -> usi
     m
 }
 
-// Puts a bit in front of the words of `count` segments: does the transition of a record hold them? Segments ascend, so that the pairs that end
-// before one are the hint for the next.
+// Puts a bit in front of the words of `count` segments: does the transition of a record hold them? Segments ascend, so that most lie in the
+// span of the one before.
 fn add_column(
     list: &[u8],
     tag: u8,
@@ -274,11 +318,16 @@ fn add_column(
     let mut left = count;
     let mut at: usize = 0;
     let mut k: usize = 0;
-    let mut j: usize = 0;
+    let mut span = Span {
+        pairs: 0,
+        floor: 1,
+        low: 0,
+        high: 0,
+    };
     while 0 < left {
-        let point = segments[at];
-        j = seek_point(list, p, size / 8, point, j);
-        let b = bit_of(holds_at(list, tag, size, p, point, j));
+        let q = key_of(segments[at]);
+        span = span_at(list, tag, size, p, q, span);
+        let b = bit_of(held(tag, span.low, q));
         out[k] = b + 2 * out[k];
         at += 2;
         k += 1;
