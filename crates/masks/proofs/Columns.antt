@@ -2,7 +2,7 @@
 -- list's bytes. Assumes nothing.
 use mathlib.Core.Path.{_≡_, refl, sym, ap, ap₂, subst, _∙_}
 use mathlib.Core.List.{List, [], _∷_}
-use mathlib.Core.Bool.{Bool, true}
+use mathlib.Core.Bool.{true}
 use Prim.Native.Nat.{ℕ, zero, suc, _+_, _*_, _-_, _^_, _<_, _≤_}
 use native.Mathlib.Nat.{le-trans}
 use native.Mathlib.Omega.{arith}
@@ -71,12 +71,11 @@ module _ (t : Transition) (ns : List ℕ) (count : ℕ) (old : List ℕ) (left a
         let d : drop k out ≡ getD out k 0 ∷ drop (k + 1) out = drop-cons out k 0 fill-here ∙ ap (λ (j : ℕ). getD out k 0 ∷ drop j out) one in
         ap₂ (λ (j : ℕ) (l : List ℕ). column t (lows ns j at) l) e d
 
-    pub fill-next : {tag q floor low high b : ℕ} {h : Bool} → q ≡ getD ns at 0 + origin → Covers t tag q floor low high → h ≡ byLow tag low q → b ≡ bit h →
+    pub fill-next : {tag q floor low high b : ℕ} → q ≡ getD ns at 0 + origin → Covers t tag q floor low high → b ≡ bit (byLow tag low q) →
         Filling t ns count old (left - 1) (at + 2) (k + 1) (set out k (b + 2 * getD out k 0))
-    fill-next {tag} {b = b} i c j e =
-        let g = held-is t tag (getD ns at 0) i c j in
+    fill-next {tag} {b = b} i c e =
         let x : ℕ = b + 2 * getD out k 0 in
-        let same : bit (holds t (getD ns at 0)) + 2 * getD out k 0 ≡ x = ap (λ (j : ℕ). j + 2 * getD out k 0) (sym (e ∙ ap bit g)) in
+        let same : bit (holds t (getD ns at 0)) + 2 * getD out k 0 ≡ x = ap (λ (j : ℕ). j + 2 * getD out k 0) (sym (held-is t tag (getD ns at 0) i c e)) in
         record {
           room = omega (arith, f .room, length-set out k x);
           small = λ i l m. rw (getD-set-other out k i x 0 (λ q. omega arith)) (f .small i (omega arith) m);

@@ -14,6 +14,7 @@ use Rattle.transitions.specs.Bytes.{numberAt, pairsAt, shapeOf, transOf}
 use Rattle.transitions.proofs.Order.{le-cases, both}
 use Rattle.transitions.proofs.Pairs.{pairs-turn, pairs-done}
 use Rattle.transitions.proofs.Tags.{shape-2, value-1, trans-1, trans-2, trans-3, trans-4, trans-5}
+use Rattle.masks.specs.Masks.{bit}
 use Rattle.masks.specs.Walk.{lowAt, highAt, Rises, Passed, Reach, Floor, Spans, byLow, Tells, Covers}
 
 -- The pairs of a set in order: one step, and any two
@@ -314,19 +315,19 @@ module _ (t : Transition) (tag : ℕ) where
     pub still-covers : Tells t tag floor low high → floor ≤ q → q ≤ high → Covers t tag q floor low high
     still-covers s a b = record { tells = s; from = a; to = b }
 
-    pub held-is : (point : ℕ) {h : Bool} → q ≡ point + origin → Covers t tag q floor low high → h ≡ byLow tag low q → h ≡ holds t point
-    held-is point e c g = g ∙ ap (byLow tag low) e ∙ sym (c .tells .each point (omega (arith, c .from)) (omega (arith, c .to)))
+    pub held-is : (point : ℕ) {b : ℕ} → q ≡ point + origin → Covers t tag q floor low high → b ≡ bit (byLow tag low q) → b ≡ bit (holds t point)
+    held-is point e c g = g ∙ ap bit (ap (byLow tag low) e ∙ sym (c .tells .each point (omega (arith, c .from)) (omega (arith, c .to))))
 
 pub ruleset telling = (needs, still-covers, held-is)
 
 -- The test by the tag
 
 module _ (tag low q : ℕ) where
-  pub by-other : {r : Bool} → 4 ≤ tag → r ≡ ltb q low → r ≡ byLow tag low q
+  pub by-other : {r : ℕ} → 4 ≤ tag → r ≡ bit (ltb q low) → r ≡ bit (byLow tag low q)
   unfolding byLow
   by-other h e = rw (le-leb 4 tag h) e
 
-  pub by-same : {r : Bool} → tag < 4 → r ≡ leb low q → r ≡ byLow tag low q
+  pub by-same : {r : ℕ} → tag < 4 → r ≡ bit (leb low q) → r ≡ bit (byLow tag low q)
   unfolding byLow
   by-same h e = rw (lt-leb 4 tag h) e
 

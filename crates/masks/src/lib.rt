@@ -3,7 +3,6 @@
 ghost use mathlib.Core.Path.{_≡_};
 ghost use mathlib.Core.Bool.{true, not};
 ghost use Prim.Native.Nat.{_+_, _*_, _/_, _≤_, _<_, min};
-ghost use lib.Dec.{eqb};
 ghost use lib.ListN.{length};
 ghost use Rattle.written.specs.Over.{lay, Put, zeros};
 ghost use Rattle.transitions.specs.Transition.{origin, atom, holds, holdAt, inOrder};
@@ -207,28 +206,6 @@ fn span_at(list: &[u8], tag: u8, size: usize, p: usize, q: u64, last: Span) -> S
     find_span(list, tag, size, p, q, last.pairs)
 }
 
-// Is a key held that lies in a span with this low?
-fn held(tag: u8, low: u64, q: u64) -> bool
-    ensures { λ r. ⌜ r ≡ byLow tag low q ⌝ }
-{
-    if 4 <= tag {
-        return q < low;
-    }
-    low <= q
-}
-
-// Does the transition of a record hold the point? Its value, of `size` bytes, starts at p.
-fn holds_from(list: &[u8], tag: u8, size: usize, p: usize, point: u32) -> bool
-    requires bytes { ⌜ p + size ≤ length (now list) ⌝ }
-    requires fits { ⌜ shapeOf tag size ≡ true ⌝ }
-    requires order { ⌜ inOrder (transOf (now list) tag size p) ≡ true ⌝ }
-    ensures { λ r. ⌜ r ≡ holds (transOf (now (list .entry)) tag size p) point ⌝ }
-{
-    let q = key_of(point);
-    let span = find_span(list, tag, size, p, q, 0);
-    held(tag, span.low, q)
-}
-
 fn bit_of(b: bool) -> u64
     ensures { λ r. ⌜ (r ≡ bit b) × (r ≤ 1) ⌝ }
 {
@@ -236,6 +213,28 @@ fn bit_of(b: bool) -> u64
         return 1;
     }
     0
+}
+
+// The bit of a key that lies in a span with this low: is it held?
+fn held(tag: u8, low: u64, q: u64) -> u64
+    ensures { λ r. ⌜ (r ≡ bit (byLow tag low q)) × (r ≤ 1) ⌝ }
+{
+    if 4 <= tag {
+        return bit_of(q < low);
+    }
+    bit_of(low <= q)
+}
+
+// The bit of a record and a point: does its transition hold it? Its value, of `size` bytes, starts at p.
+fn bit_from(list: &[u8], tag: u8, size: usize, p: usize, point: u32) -> u64
+    requires bytes { ⌜ p + size ≤ length (now list) ⌝ }
+    requires fits { ⌜ shapeOf tag size ≡ true ⌝ }
+    requires order { ⌜ inOrder (transOf (now list) tag size p) ≡ true ⌝ }
+    ensures { λ r. ⌜ (r ≡ bit (holds (transOf (now (list .entry)) tag size p) point)) × (r ≤ 1) ⌝ }
+{
+    let q = key_of(point);
+    let span = find_span(list, tag, size, p, q, 0);
+    held(tag, span.low, q)
 }
 
 // The mask word of the n records from `at` on: bit i is set where record i holds the point.
@@ -249,7 +248,7 @@ fn word_of(list: &[u8], at: usize, n: usize, point: u32) -> u64
     }
     let tag = list[at];
     let size = size_at(list, at + 1);
-    let b = bit_of(holds_from(list, tag, size, at + 3, point));
+    let b = bit_from(list, tag, size, at + 3, point);
     let more = word_of(list, at + 3 + size, n - 1, point);
     b + 2 * more
 }
@@ -327,7 +326,7 @@ fn add_column(
     while 0 < left {
         let q = key_of(segments[at]);
         span = span_at(list, tag, size, p, q, span);
-        let b = bit_of(held(tag, span.low, q));
+        let b = held(tag, span.low, q);
         out[k] = b + 2 * out[k];
         at += 2;
         k += 1;

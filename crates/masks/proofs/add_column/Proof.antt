@@ -26,7 +26,6 @@ add-column-spec =
     (λ c κs. search columns)
     (λ c κs. (search columns, (search columns, (search columns, (search columns, search columns)))))
     (λ c κs. search columns)
-    (λ c κs. search columns)
     (λ c. search columns)
     (λ c. search columns)
     (λ c. search columns)

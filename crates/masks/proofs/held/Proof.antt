@@ -7,5 +7,7 @@ pub held-spec : {M : Type 1} → statement M
 held-spec =
     tie.close
     (tie.spec
+    (λ c κs. search tests)
     (λ c. search tests)
+    (λ c κs. search tests)
     (λ c. search tests))

@@ -1,10 +1,10 @@
 -- The span, and the test in it.
 use Rattle.masks.proofs.Holds.{telling}
-use Rattle.masks.proofs.holds_from.Statement.{statement}
-use Rattle.masks.proofs.holds_from.Tie as tie
+use Rattle.masks.proofs.bit_from.Statement.{statement}
+use Rattle.masks.proofs.bit_from.Tie as tie
 
-pub holds-from-spec : {M : Type 1} → statement M
-holds-from-spec =
+pub bit-from-spec : {M : Type 1} → statement M
+bit-from-spec =
     tie.close
     (tie.spec
     (λ c κs. search telling)
