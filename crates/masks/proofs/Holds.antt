@@ -15,7 +15,7 @@ use Rattle.transitions.proofs.Order.{le-cases, both}
 use Rattle.transitions.proofs.Pairs.{pairs-turn, pairs-done}
 use Rattle.transitions.proofs.Tags.{shape-2, value-1, trans-1, trans-2, trans-3, trans-4, trans-5}
 use Rattle.masks.specs.Masks.{bit}
-use Rattle.masks.specs.Walk.{lowAt, highAt, Rises, Passed, Reach, Floor, Spans, byLow, Tells, Covers}
+use Rattle.masks.specs.Walk.{lowAt, highAt, Rises, Passed, Reach, Floor, last, Spans, byLow, Tells, Covers}
 
 -- The pairs of a set in order: one step, and any two
 
@@ -186,12 +186,12 @@ module _ (w : List ℕ) (n p q j : ℕ) (o : Rises w n p) (s : Reach w n p q j) 
         each = λ k g h. rw d (any-at w n p j k (s .passed .within) (before k g) o l (omega (arith, e)));
       }
 
-  pub span-past : n ≤ j → q ≤ 8589934592 → Spans w n p q f 8589934593 8589934592
+  pub span-past : n ≤ j → q ≤ last → Spans w n p q f (last + 1) last
   span-past l h =
       record {
         from = below;
         to = h;
-        each = λ k g m. any-past w n p j k (s .passed .within) (before k g) l ∙ sym (lt-leb 8589934593 k (omega arith));
+        each = λ k g m. any-past w n p j k (s .passed .within) (before k g) l ∙ sym (lt-leb (last + 1) k (omega arith));
       }
 
 pub ruleset spans = (needs, span-in, span-past)
@@ -213,11 +213,11 @@ module _ (x q : ℕ) where
         to = h;
       }
 
-  pub atom-past : x < q → q ≤ 8589934592 → Covers (atom x) 1 q (x + 1) 8589934593 8589934592
+  pub atom-past : x < q → q ≤ last → Covers (atom x) 1 q (x + 1) (last + 1) last
   unfolding holds byLow
   atom-past h l =
       record {
-        tells = record { each = λ point a b. ne-eqb x (point + origin) (λ e. omega arith) ∙ sym (lt-leb 8589934593 (point + origin) (omega arith)) };
+        tells = record { each = λ point a b. ne-eqb x (point + origin) (λ e. omega arith) ∙ sym (lt-leb (last + 1) (point + origin) (omega arith)) };
         from = omega arith;
         to = l;
       }

@@ -50,6 +50,10 @@ pub record Floor (w : List ℕ) (p j r : ℕ) : Type 0 where
   pub none : j ≡ 0 → r ≡ 0
   pub some : 0 < j → r ≡ highAt w p (j - 1) + 1
 
+-- no point has a key above this
+abbrev pub last : ℕ
+last = 8589934592
+
 -- one of n pairs holds a key from floor to high just where it is not below low, and q is such a key
 pub record Spans (w : List ℕ) (n p q floor low high : ℕ) : Type 0 where
   pub from : floor ≤ q

@@ -1,7 +1,7 @@
 // The masks of the segments of a list of transitions: which transitions hold a segment, 64 to a word, for each segment. A list may be of any
 // length and hold any bytes. The answer `Places` is that of `distinct_masks` above, whose definitions stand here with the others.
 ghost use mathlib.Core.Path.{_≡_};
-ghost use mathlib.Core.Bool.{true, not};
+ghost use mathlib.Core.Bool.{true};
 ghost use Prim.Native.Nat.{_+_, _*_, _/_, _≤_, _<_, min};
 ghost use lib.ListN.{length};
 ghost use Rattle.written.specs.Over.{lay, Put, zeros};
@@ -10,7 +10,7 @@ ghost use Rattle.transitions.specs.Bytes.{numberAt, sizeAt, shapeOf, transOf};
 ghost use Rattle.transitions.specs.Read.{parse, accepted};
 ghost use Rattle.transitions.specs.Walk.{transAt, transFrom};
 ghost use Rattle.masks.specs.Masks.{bit, wordOf, maskOf, masksAt, flat};
-ghost use Rattle.masks.specs.Walk.{Fit, nextOf, Rises, Passed, Reach, Floor, Spans, byLow, Tells, Covers, lows, column, Columned};
+ghost use Rattle.masks.specs.Walk.{Fit, nextOf, Rises, Passed, Reach, Floor, last, Spans, byLow, Tells, Covers, lows, column, Columned};
 ghost use Rattle.masks.specs.Answer.{parseMasks, Matrix, Ready};
 use refusal::ROOM;
 use refusal::Refusal;
@@ -20,10 +20,15 @@ use transitions::Transitions;
 // The key of the point 0.
 const ORIGIN: u64 = 2147483648;
 
+// No point has a key above LAST; PAST is above it.
+const LAST: u64 = 8589934592;
+
+const PAST: u64 = 8589934593;
+
 // Words of the most masks that a list may have, with some to spare.
 pub const WORDS: usize = 8192;
 
-// Keys from `floor` to `high`, none of which a record's pairs part but at `low`: a pair holds those not below it. `pairs` of them end before.
+// The keys from `floor` to `high`, of which a record's pairs hold just those that are not below `low`. `pairs` of them end before.
 struct Span {
     pairs: usize,
     floor: u64,
@@ -66,7 +71,7 @@ fn number_at(list: &[u8], p: usize) -> u64
 }
 
 fn key_of(point: u32) -> u64
-    ensures { λ r. ⌜ (r ≡ point + origin) × (r ≤ 8589934592) ⌝ }
+    ensures { λ r. ⌜ (r ≡ point + origin) × (r ≤ last) ⌝ }
 {
     (point as u64) + ORIGIN
 }
@@ -114,7 +119,7 @@ fn seek(list: &[u8], p: usize, n: usize, q: u64, hint: usize) -> usize
     j
 }
 
-// The key before which all of the first j of n pairs from p end, and the last of them just before; 0, if there are none.
+// The key just behind the first j of n ascending pairs from p; 0, if j is.
 fn floor_at(list: &[u8], p: usize, n: usize, j: usize) -> u64
     requires bytes { ⌜ p + 8 * n ≤ length (now list) ⌝ }
     requires within { ⌜ j ≤ n ⌝ }
@@ -126,11 +131,11 @@ fn floor_at(list: &[u8], p: usize, n: usize, j: usize) -> u64
     number_at(list, p + 8 * (j - 1) + 4) + 1
 }
 
-// The keys about q, by n ascending pairs from p: up to the end of the first pair that reaches q, or all, if none does.
+// The span of the key q for n ascending pairs from p: up to the end of the first pair that reaches q, or to the last key, if none does.
 fn pair_span(list: &[u8], p: usize, n: usize, q: u64, hint: usize) -> Span
     requires bytes { ⌜ p + 8 * n ≤ length (now list) ⌝ }
     requires order { ⌜ Rises (now list) n p ⌝ }
-    requires key { ⌜ q ≤ 8589934592 ⌝ }
+    requires key { ⌜ q ≤ last ⌝ }
     ensures { λ r. ⌜ Spans (now (list .entry)) n p q (r .floor) (r .low) (r .high) ⌝ }
 {
     let j = seek(list, p, n, q, hint);
@@ -148,15 +153,15 @@ fn pair_span(list: &[u8], p: usize, n: usize, q: u64, hint: usize) -> Span
     Span {
         pairs: j,
         floor,
-        low: 8589934593,
-        high: 8589934592,
+        low: PAST,
+        high: LAST,
     }
 }
 
-// The keys about q, by an atom.
+// The span of the key q for the atom x.
 fn atom_span(x: u64, q: u64) -> Span
     requires number { ⌜ x < 4294967296 ⌝ }
-    requires key { ⌜ q ≤ 8589934592 ⌝ }
+    requires key { ⌜ q ≤ last ⌝ }
     ensures { λ r. ⌜ Covers (atom x) 1 q (r .floor) (r .low) (r .high) ⌝ }
 {
     if q <= x {
@@ -170,17 +175,17 @@ fn atom_span(x: u64, q: u64) -> Span
     Span {
         pairs: 0,
         floor: x + 1,
-        low: 8589934593,
-        high: 8589934592,
+        low: PAST,
+        high: LAST,
     }
 }
 
-// The keys about q, by a record of `size` bytes from p. A good hint, how many of its pairs end before q, saves the way.
+// The span of the key q for a record whose value, of `size` bytes, starts at p. A good hint, how many of its pairs end before q, saves the way.
 fn find_span(list: &[u8], tag: u8, size: usize, p: usize, q: u64, hint: usize) -> Span
     requires bytes { ⌜ p + size ≤ length (now list) ⌝ }
     requires fits { ⌜ shapeOf tag size ≡ true ⌝ }
     requires order { ⌜ inOrder (transOf (now list) tag size p) ≡ true ⌝ }
-    requires key { ⌜ q ≤ 8589934592 ⌝ }
+    requires key { ⌜ q ≤ last ⌝ }
     ensures { λ r. ⌜ Covers (transOf (now (list .entry)) tag size p) tag q (r .floor) (r .low) (r .high) ⌝ }
 {
     if tag == 1 {
@@ -189,21 +194,21 @@ fn find_span(list: &[u8], tag: u8, size: usize, p: usize, q: u64, hint: usize) -
     pair_span(list, p, size / 8, q, hint)
 }
 
-// The same, if those found last are not about q too.
-fn span_at(list: &[u8], tag: u8, size: usize, p: usize, q: u64, last: Span) -> Span
+// The same; the last span found, if q lies in it.
+fn span_at(list: &[u8], tag: u8, size: usize, p: usize, q: u64, found: Span) -> Span
     requires bytes { ⌜ p + size ≤ length (now list) ⌝ }
     requires fits { ⌜ shapeOf tag size ≡ true ⌝ }
     requires order { ⌜ inOrder (transOf (now list) tag size p) ≡ true ⌝ }
-    requires key { ⌜ q ≤ 8589934592 ⌝ }
-    requires known { ⌜ Tells (transOf (now list) tag size p) tag (last .floor) (last .low) (last .high) ⌝ }
+    requires key { ⌜ q ≤ last ⌝ }
+    requires known { ⌜ Tells (transOf (now list) tag size p) tag (found .floor) (found .low) (found .high) ⌝ }
     ensures { λ r. ⌜ Covers (transOf (now (list .entry)) tag size p) tag q (r .floor) (r .low) (r .high) ⌝ }
 {
-    if last.floor <= q {
-        if q <= last.high {
-            return last;
+    if found.floor <= q {
+        if q <= found.high {
+            return found;
         }
     }
-    find_span(list, tag, size, p, q, last.pairs)
+    find_span(list, tag, size, p, q, found.pairs)
 }
 
 fn bit_of(b: bool) -> u64
