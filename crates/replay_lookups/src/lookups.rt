@@ -77,7 +77,7 @@ fn answer(room: &[u32], kind: u8, state: u16, symbol: &[u8]) -> u32 {
     }
 }
 
-pub fn replay_number(room: &[u32], record: &[u8]) -> Replayed {
+pub(crate) fn replay_number(room: &[u32], record: &[u8]) -> Replayed {
     let state = read::half(read::after(record, 1));
     let ours = answer(room, read::byte(record, 0), state, read::after(record, 3));
     Replayed {
@@ -100,7 +100,7 @@ fn same_scan(scan: StateScan, part: usize, recorded: &[u8]) -> bool {
     }
 }
 
-pub fn replay_scan(room: &[u32], record: &[u8]) -> Replayed {
+pub(crate) fn replay_scan(room: &[u32], record: &[u8]) -> Replayed {
     let state = read::half(read::after(record, 1));
     let n = read::size(read::after(record, 3));
     let input = read::front(read::after(record, 5), n);
