@@ -1,7 +1,7 @@
 -- The answer in C is what the call says, case by case.
-use Rattle.lexer_dfa_c.proofs.Calls.{calling}
-use Rattle.lexer_dfa_c.proofs.lexer_dfa_class.Statement.{statement}
-use Rattle.lexer_dfa_c.proofs.lexer_dfa_class.Tie as tie
+use Rattle.class_c.proofs.Calls.{calling}
+use Rattle.class_c.proofs.lexer_dfa_class.Statement.{statement}
+use Rattle.class_c.proofs.lexer_dfa_class.Tie as tie
 
 pub lexer-dfa-class-spec : {M : Type 1} → statement M
 lexer-dfa-class-spec =
