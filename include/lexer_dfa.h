@@ -38,9 +38,10 @@ enum {
     LEXER_DFA_INDEX = 6, /* an index rule is broken; place: the first such rule, 1 to 9 */
     LEXER_DFA_ROOM = 7,  /* a room or an output is too short, or a pool for a new row; place: 0 */
     LEXER_DFA_STATE = 8, /* no such state, or a symbol past 127 for ascii_target; place: 0 */
-    LEXER_DFA_NOT_TABLE = 9, /* what a lookup follows in a room is not there, a room to encode is
-                                not one that decoding leaves, or rows do not fit their pool;
-                                place: 0 */
+    LEXER_DFA_NOT_TABLE = 9, /* a number that a lookup follows leads outside the room or its section,
+                                or one that it reads is forbidden there; a room to encode or to
+                                count is not one that decoding leaves; or rows do not fit their
+                                pool; place: 0 */
     LEXER_DFA_ORDER = 10,    /* the starts of compiled modes descend; place: the mode. The pairs of
                                 a set do not ascend; place: the record's offset */
     LEXER_DFA_TARGETS = 11   /* targets or continuations are not as many as distinct masks;
@@ -134,7 +135,8 @@ typedef struct {
 /*
  * Decodes a table into a room of at least LEXER_DFA_ROOM_NUMBERS numbers; what it held before does
  * not matter. Accepted, it holds the table's numbers, then zeros. Judged in this order: ROOM,
- * LIMIT, then SHORT, TAG and FIELD (at its word) in the order of the words, LEFT, INDEX.
+ * LIMIT, then SHORT, TAG and FIELD in the order of the words, LEFT, INDEX. FIELD is at its word; but a
+ * run of kind 5 and a context are read whole, three words, before FIELD, which is at the first.
  */
 DecodeAnswer lexer_dfa_decode(const uint32_t *words, size_t len, uint32_t *room,
                               size_t room_len);
@@ -155,8 +157,9 @@ ListAnswer lexer_dfa_encode(const uint32_t *room, size_t len, uint32_t *out, siz
 
 /*
  * Lookups take any room, of any length and with any numbers, and read nothing outside it. NOT_TABLE
- * is never met on a room that decoding has filled; it comes before STATE. A lookup's refusal is at
- * 0, so that the answer has no place: it passes in one register. On a refusal `value` is 0.
+ * is never met on a room that decoding has filled; it comes before STATE. A refusal of NOT_TABLE or
+ * STATE is at 0, so that such an answer has no place: it passes in one register. On a refusal `value`
+ * is 0. Only mode_state_counts tells a place, that of ORDER.
  */
 #define LEXER_DFA_NONE 4294967295u
 #define LEXER_DFA_ESCAPE_STATE 65534u

@@ -50,7 +50,7 @@ upToFour rs = pick (leb (length rs) 4) (record { ranges = rs ++ replicate (4 - l
 abbrev pub listed : AsciiRanges → List AsciiRange
 listed r = take (r .count) (r .ranges)
 
--- A good list: "each low is at most its high, highs at most 127, each high + 1 below the next low, unused places 0"
+-- A good list: "Each low is at most its high, highs at most 127, each high + 1 below the next low, unused places 0"
 
 -- a range that starts at `least` or later
 abbrev pub follows : ℕ → AsciiRange → Bool

@@ -10,7 +10,7 @@ use Rattle.ascii_range.specs.declared.AsciiRange.{AsciiRange}
 use Rattle.ascii_range.specs.Ranges.{exitsAt, rangesFrom}
 use Rattle.ascii_run.specs.Shape.{Shape, none, any, until, ranges, held, Got, run, refused}
 
--- symbols not looping on the state are exits; the row's first target is that of the symbol
+-- "symbols not looping on the state are exits": of a row whose first target is that of `symbol`
 unfoldable pub exitsFrom : ℕ → ℕ → List ℕ → List ℕ
 exitsFrom state symbol [] = []
 exitsFrom state symbol (t ∷ ts) = pick (exitsAt state t) (symbol ∷ exitsFrom state (suc symbol) ts) (exitsFrom state (suc symbol) ts)

@@ -13,12 +13,20 @@ use Rattle.ascii_run.specs.declared.Scanned.{Scanned}
 use Rattle.ascii_run.specs.declared.Scanned.the-variants.{NoRun, Skipped}
 use Rattle.ascii_run.specs.Shape.{Shape, none, any, until, ranges}
 
--- until-runs stop only at their exit bytes, and so pass bytes of 128 and above; ranges stop there; any takes all; none takes nothing
+-- "until-runs stop only at their exit bytes"; ranges stop outside; "any takes all"; none takes nothing
 unfoldable pub stops : Shape → ℕ → Bool
 stops none b = true
 stops any b = false
 stops (until es) b = some (eqb b) es
 stops (ranges rs) b = outside rs b
+
+-- "pass bytes of 128 and above; ranges stop there": so it is, at each such byte, with every run whose words are read (`read-high`) and with that of every
+-- row (`classification-high`)
+abbrev pub stopsHigh : Shape → Bool
+stopsHigh none = true
+stopsHigh any = false
+stopsHigh (until es) = false
+stopsHigh (ranges rs) = true
 
 -- how many bytes a run skips
 abbrev pub skipped : Shape → List ℕ → ℕ

@@ -6,7 +6,7 @@ ghost use Rattle.ascii_run.specs.Words.{sizeOf};
 use ascii_range::AsciiRanges;
 use refusal::Refusal;
 
-// What a run stops at: nothing of the kind, nothing, its exits, or the end of its ranges.
+// No run; one that nothing stops; one that stops at its one to three exits; or one that stops at the first byte outside its ranges.
 pub enum AsciiRun {
     None,
     Any,

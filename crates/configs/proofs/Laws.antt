@@ -1,6 +1,6 @@
--- The laws of the continuations' records: where a record lies that is found whole, how to go on from it, and that `said` takes no two
--- answers to one. Assumes nothing.
-use Prim.Native.Nat.{ℕ, zero, suc, _+_, _*_, _-_, _^_, _<_, _≤_}
+-- The laws of the continuations' records: where a record lies that is found whole, and that what is said takes no two answers to one.
+-- Assumes nothing.
+use Prim.Native.Nat.{ℕ, zero, suc, _+_, _*_, _-_, _<_, _≤_}
 use native.Mathlib.Nat.{not-suc-le-zero}
 use native.Mathlib.Numerals.{sub-one}
 use native.Mathlib.Omega.{arith}
@@ -8,23 +8,18 @@ use mathlib.Core.Path.{_≡_, refl, sym, ap, _∙_}
 use mathlib.Core.List.{List, [], _∷_}
 use lib.Dec.{ltb, leb}
 use lib.ListN.{length, getD}
-use mir.Syntax.{w64}
-use mir.Val.{Fits}
-use denote.Ref.{RefT}
 use borrow.Author.Needs.{needs}
 use borrow.Author.Tests.{le-leb, lt-leb, lt-ltb, le-ltb, ltb-true, leb-true}
 use Rattle.refusal.specs.Said.{Said, ok, no}
 use Rattle.room_read.specs.declared.Found.{Found}
 use Rattle.room_read.specs.declared.Found.the-variants.{At, Absent, Outside}
-use Rattle.room_read.specs.declared.Span.{Span}
 use Rattle.room_read.specs.Room.{follow}
-use Rattle.room_read.specs.Part.{PartOf}
 use Rattle.room_read.proofs.Records.{held, listed-in-room, there, absent, outside}
 use Rattle.configs.specs.declared.Whole.{Whole}
 use Rattle.configs.specs.declared.Whole.the-variants as whole
 use Rattle.configs.specs.declared.ContinuationRecord.{ContinuationRecord}
 use Rattle.configs.specs.declared.ContinuationRecord.the-variants.{Record, NoRecord, NotTable}
-use Rattle.configs.specs.Configs.{said, placeOf, pastContexts, pastConfig, pastConfigs, wholeBehind, wholeFrom, wholeAt, ofWhole}
+use Rattle.configs.specs.Configs.{said, wholeSaid, placeOf, pastContexts, pastConfig, pastConfigs, wholeBehind, wholeFrom, wholeAt}
 
 -- by the tests on the way
 pub ruleset cases = (needs, le-leb, lt-leb, lt-ltb, le-ltb)
@@ -129,12 +124,12 @@ module _ (w : List ℕ) (i : ℕ) {p : ℕ} {got : Found} (g : got ≡ placeOf w
   place-inside = place-lies w i (sym g ∙ k) .2
 
 -- its parts follow each other in the room
-record Lies (w : List ℕ) (p q z : ℕ) : Type 0 where
-  contexts : p + 1 ≤ q
-  configs : q + 1 ≤ z
-  inside : z ≤ length w
+pub record Lies (w : List ℕ) (p q z : ℕ) : Type 0 where
+  pub contexts : p + 1 ≤ q
+  pub configs : q + 1 ≤ z
+  pub inside : z ≤ length w
 
-lies : (w : List ℕ) (i : ℕ) {p q z : ℕ} → wholeAt w i ≡ whole.Spans p q z → Lies w p q z
+pub lies : (w : List ℕ) (i : ℕ) {p q z : ℕ} → wholeAt w i ≡ whole.Spans p q z → Lies w p q z
 unfolding wholeAt wholeFrom wholeBehind
 lies w i {p} {q} {z} h =
     let e = 9 + getD w 0 0 in
@@ -151,82 +146,7 @@ lies w i {p} {q} {z} h =
     let p₃ : c .0 ≡ z = cc in
     record { contexts = omega arith; configs = omega arith; inside = omega arith }
 
-module _ (w : List ℕ) (i : ℕ) {p q z : ℕ} {got : Whole} (g : got ≡ wholeAt w i) (k : got ≡ whole.Spans p q z) where
-  pub contexts-count : p < length w
-  contexts-count = let l = lies w i (sym g ∙ k) in omega (arith, l .contexts, l .configs, l .inside)
-
-  pub contexts-bytes : length w * 4 < 2 ^ 63 → Fits w64 (p * 4)
-  contexts-bytes h = let l = lies w i (sym g ∙ k) in record { fits = omega (arith, l .contexts, l .configs, l .inside) }
-
-  pub contexts-first : length w * 4 < 2 ^ 63 → Fits w64 (p + 1)
-  contexts-first h = let l = lies w i (sym g ∙ k) in record { fits = omega (arith, l .contexts, l .configs, l .inside) }
-
-  pub contexts-part : p + 1 ≤ q
-  contexts-part = lies w i (sym g ∙ k) .contexts
-
-  pub contexts-room : q ≤ length w
-  contexts-room = let l = lies w i (sym g ∙ k) in omega (arith, l .configs, l .inside)
-
-  pub configs-count : q < length w
-  configs-count = let l = lies w i (sym g ∙ k) in omega (arith, l .configs, l .inside)
-
-  pub configs-bytes : length w * 4 < 2 ^ 63 → Fits w64 (q * 4)
-  configs-bytes h = let l = lies w i (sym g ∙ k) in record { fits = omega (arith, l .configs, l .inside) }
-
-  pub configs-first : length w * 4 < 2 ^ 63 → Fits w64 (q + 1)
-  configs-first h = let l = lies w i (sym g ∙ k) in record { fits = omega (arith, l .configs, l .inside) }
-
-  pub configs-part : q + 1 ≤ z
-  configs-part = lies w i (sym g ∙ k) .configs
-
-  pub configs-room : z ≤ length w
-  configs-room = lies w i (sym g ∙ k) .inside
-
--- Going on with a record
-
-module _ {A : Type 0} (x : Whole) (f : ℕ → ℕ → ℕ → A) (a o : A) {got : Whole} where
-  pub whole-there : {p q z : ℕ} {all : A} → got ≡ x → got ≡ whole.Spans p q z → all ≡ f p q z → all ≡ ofWhole x f a o
-  unfolding ofWhole
-  whole-there g k h = h ∙ (rw (← g, k))
-
-  pub whole-absent : got ≡ x → got ≡ whole.Absent → a ≡ ofWhole x f a o
-  unfolding ofWhole
-  whole-absent g k = rw (← g, k)
-
-  pub whole-outside : got ≡ x → got ≡ whole.Outside → o ≡ ofWhole x f a o
-  unfolding ofWhole
-  whole-outside g k = rw (← g, k)
-
-module _ (room : RefT (List ℕ)) (x : Whole) (f g : ℕ → ℕ → ℕ → ℕ) {got : Whole} {part : RefT (List ℕ)} where
-  pub part-there : {p q z : ℕ} → got ≡ x → got ≡ whole.Spans p q z → PartOf room (f p q z) (g p q z) part → PartOf room (ofWhole x f 0 0) (ofWhole x g 0 0) part
-  unfolding ofWhole
-  part-there e h k = rw (sym e ∙ h) k
-
-  pub part-absent : got ≡ x → got ≡ whole.Absent → PartOf room 0 0 part → PartOf room (ofWhole x f 0 0) (ofWhole x g 0 0) part
-  unfolding ofWhole
-  part-absent e h k = rw (sym e ∙ h) k
-
-  pub part-outside : got ≡ x → got ≡ whole.Outside → PartOf room 0 0 part → PartOf room (ofWhole x f 0 0) (ofWhole x g 0 0) part
-  unfolding ofWhole
-  part-outside e h k = rw (sym e ∙ h) k
-
-module _ (x : Whole) (f g : ℕ → ℕ → ℕ → ℕ) {got : Whole} {span : Span} where
-  pub span-there : {p q z : ℕ} → got ≡ x → got ≡ whole.Spans p q z → span ≡ record { from = f p q z; length = g p q z } → span ≡ record { from = ofWhole x f 0 0; length = ofWhole x g 0 0 }
-  unfolding ofWhole
-  span-there e h k = k ∙ (rw (sym e ∙ h))
-
-  pub span-absent : got ≡ x → got ≡ whole.Absent → span ≡ record { from = 0; length = 0 } → span ≡ record { from = ofWhole x f 0 0; length = ofWhole x g 0 0 }
-  unfolding ofWhole
-  span-absent e h k = k ∙ (rw (sym e ∙ h))
-
-  pub span-outside : got ≡ x → got ≡ whole.Outside → span ≡ record { from = 0; length = 0 } → span ≡ record { from = ofWhole x f 0 0; length = ofWhole x g 0 0 }
-  unfolding ofWhole
-  span-outside e h k = k ∙ (rw (sym e ∙ h))
-
 pub ruleset finding = (needs, there, absent, outside, contexts-before, place-header, place-before, place-inside)
-
-pub ruleset parting =
-    (needs, contexts-count, contexts-bytes, contexts-first, contexts-part, contexts-room, configs-count, configs-bytes, configs-first, configs-part, configs-room, whole-there, whole-absent, whole-outside, part-there, part-absent, part-outside, span-there, span-absent, span-outside)
 
 -- `said` takes no two answers to one: what it says gives the answer back
 abbrev listBack : List ℕ → ContinuationRecord
@@ -244,3 +164,19 @@ back-said NotTable = refl
 
 pub said-one : (x y : ContinuationRecord) → said x ≡ said y → x ≡ y
 said-one x y e = sym (back-said x) ∙ ap back e ∙ back-said y
+
+abbrev wholeList : List ℕ → Whole
+wholeList [] = whole.Absent
+wholeList (p ∷ l) = whole.Spans p (getD l 0 0) (getD l 1 0)
+
+abbrev wholeBack : Said → Whole
+wholeBack (ok l) = wholeList l
+wholeBack (no n p) = whole.Outside
+
+whole-back-said : (x : Whole) → wholeBack (wholeSaid x) ≡ x
+whole-back-said (whole.Spans p q z) = refl
+whole-back-said whole.Absent = refl
+whole-back-said whole.Outside = refl
+
+pub whole-said-one : (x y : Whole) → wholeSaid x ≡ wholeSaid y → x ≡ y
+whole-said-one x y e = sym (whole-back-said x) ∙ ap wholeBack e ∙ whole-back-said y

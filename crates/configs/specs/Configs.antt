@@ -21,6 +21,12 @@ said (Record contexts configs) = ok (contexts ∷ configs ∷ [])
 said NoRecord = ok []
 said NotTable = no NOT-TABLE 0
 
+-- where the context count and the config count of a record stand, and where it ends; that there is no such record; or a refusal
+abbrev pub wholeSaid : Whole → Said
+wholeSaid (whole.Spans p q z) = ok (p ∷ q ∷ z ∷ [])
+wholeSaid whole.Absent = ok []
+wholeSaid whole.Outside = no NOT-TABLE 0
+
 -- the places of the continuations stand behind the words and the places of the runs, the wide rows, the accepts and the escape rows; the last section ends with the words
 abbrev pub placePast : List ℕ → ℕ → ℕ → ℕ → ℕ → ℕ → ℕ → ℕ → Found
 placePast w words runs wides accepts escapes s i =

@@ -1,15 +1,14 @@
-// The record of a continuation: its contexts and its configs, as parts of the room. The room may be of any length and hold any numbers.
+// The record of a continuation, found whole: where its context count and its config count stand, and where it ends. The room may be of any
+// length and hold any numbers.
 ghost use mathlib.Core.Path.{_≡_};
-ghost use Prim.Native.Nat.{_+_, _-_, _^_, _<_, _≤_};
+ghost use Prim.Native.Nat.{_+_, _^_, _<_, _≤_};
 ghost use lib.ListN.{length};
 ghost use Rattle.room_read.specs.Room.{listedIn};
-ghost use Rattle.room_read.specs.Part.{PartOf};
-ghost use Rattle.configs.specs.Configs.{said, placePast, placeOf, pastContexts, pastActions, pastConfig, pastConfigs, wholeBehind, wholeFrom, wholeAt, recordOf, contextsFrom, contextsLength, contextsSpan, configsFrom, configsLength, configsSpan};
+ghost use Rattle.configs.specs.Configs.{placePast, placeOf, pastContexts, pastActions, pastConfig, pastConfigs, wholeBehind, wholeFrom, wholeAt};
 use room_read::Found;
-use room_read::Span;
 
 // Where the context count and the config count of a record stand, and where it ends.
-enum Whole {
+pub enum Whole {
     Spans(usize, usize, usize),
     Absent,
     Outside,
@@ -178,87 +177,12 @@ fn whole_in(room: &[u32], words: u32, at: usize) -> Whole
 }
 
 // The record with a number, whole.
-fn find_whole(room: &[u32], i: u32) -> Whole
+pub fn find_whole(room: &[u32], i: u32) -> Whole
     ensures { λ r. ⌜ r ≡ wholeAt (now (room .entry)) i ⌝ }
 {
     match place(room, i) {
         Found::At(p) => whole_in(room, room[0], p),
         Found::Absent => Whole::Absent,
         Found::Outside => Whole::Outside,
-    }
-}
-
-// The record of a continuation, without its contexts and configs.
-pub fn continuation_record(room: &[u32], number: u32) -> ContinuationRecord
-    ensures { λ r. ⌜ said r ≡ recordOf (now (room .entry)) number ⌝ }
-{
-    match find_whole(room, number) {
-        Whole::Spans(p, q, _) => ContinuationRecord::Record {
-            contexts: room[p],
-            configs: room[q],
-        },
-        Whole::Absent => ContinuationRecord::NoRecord,
-        Whole::Outside => ContinuationRecord::NotTable,
-    }
-}
-
-fn part(room: &[u32], from: usize, end: usize) -> &[u32]
-    requires { ⌜ (from ≤ end) × (end ≤ length (now room)) ⌝ }
-    ensures { λ r. ⌜ PartOf (room .entry) from (end - from) r ⌝ }
-{
-    &room[from..end]
-}
-
-// The contexts of a continuation, three numbers each, as a part of the room.
-pub fn continuation_contexts(room: &[u32], number: u32) -> &[u32]
-    ensures { λ r. ⌜ PartOf (room .entry) (contextsFrom (now (room .entry)) number) (contextsLength (now (room .entry)) number) r ⌝ }
-{
-    match find_whole(room, number) {
-        Whole::Spans(p, q, _) => part(room, p + 1, q),
-        Whole::Absent => part(room, 0, 0),
-        Whole::Outside => part(room, 0, 0),
-    }
-}
-
-// The configs of a continuation, each with its actions, as a part of the room.
-pub fn continuation_configs(room: &[u32], number: u32) -> &[u32]
-    ensures { λ r. ⌜ PartOf (room .entry) (configsFrom (now (room .entry)) number) (configsLength (now (room .entry)) number) r ⌝ }
-{
-    match find_whole(room, number) {
-        Whole::Spans(_, q, z) => part(room, q + 1, z),
-        Whole::Absent => part(room, 0, 0),
-        Whole::Outside => part(room, 0, 0),
-    }
-}
-
-fn span_between(from: usize, end: usize) -> Span
-    requires { ⌜ from ≤ end ⌝ }
-    ensures { λ r. ⌜ r ≡ record { from = from; length = end - from } ⌝ }
-{
-    Span {
-        from,
-        length: end - from,
-    }
-}
-
-// The contexts by their place in the room, for a caller that can't be handed a part.
-pub fn continuation_contexts_span(room: &[u32], number: u32) -> Span
-    ensures { λ r. ⌜ r ≡ contextsSpan (now (room .entry)) number ⌝ }
-{
-    match find_whole(room, number) {
-        Whole::Spans(p, q, _) => span_between(p + 1, q),
-        Whole::Absent => span_between(0, 0),
-        Whole::Outside => span_between(0, 0),
-    }
-}
-
-// The configs by their place in the room.
-pub fn continuation_configs_span(room: &[u32], number: u32) -> Span
-    ensures { λ r. ⌜ r ≡ configsSpan (now (room .entry)) number ⌝ }
-{
-    match find_whole(room, number) {
-        Whole::Spans(_, q, z) => span_between(q + 1, z),
-        Whole::Absent => span_between(0, 0),
-        Whole::Outside => span_between(0, 0),
     }
 }

@@ -83,7 +83,7 @@ fn find_row(room: &[u32], row: u32) -> Found
 fn search_row(room: &[u32], at: usize, end: u32, symbol: u32) -> Continuation
     ensures { λ r. ⌜ said r ≡ searchRow (now (room .entry)) at end symbol ⌝ }
 {
-    match room_read::search_row(room, at, end, symbol) {
+    match row_search::search_row(room, at, end, symbol) {
         Hit::Third(c) => Continuation::Number(c),
         Hit::Gap => Continuation::Number(NONE),
         Hit::Outside => Continuation::NotTable,

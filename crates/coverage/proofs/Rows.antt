@@ -12,6 +12,7 @@ use Rattle.table.specs.Table.{Range, each, rangeWords}
 use Rattle.table.specs.Rules.{Searchable}
 use Rattle.table.proofs.Codec.{At, on, at-head}
 use Rattle.lookup_laws.specs.Looks.{goalAt}
+use Rattle.lookup_laws.proofs.RowsLooked.{first-ordered, behind-first}
 use Rattle.coverage.specs.Coverage.{lives, count}
 use Rattle.coverage.specs.Spans.{below, span, spans}
 use Rattle.coverage.proofs.Counts.{count-none, count-both, count-range, cut}
@@ -48,16 +49,6 @@ range-counted r h = go (eqb (r .goal) 65535)
 dead-before : (r : Range) (rs : List Range) (x : ℕ) → x < r .low → r .low ≤ r .high → goalAt 65535 (r ∷ rs) x ≡ 65535
 unfolding goalAt
 dead-before r rs x l h = let m : x ≤ r .high = omega arith in rw (le-leb x (r .high) m, lt-leb (r .low) x l)
-
-first-ordered : (r : Range) (rs : List Range) → Searchable (r ∷ rs) → r .low ≤ r .high
-unfolding Searchable
-first-ordered r [] s = s
-first-ordered r (next ∷ rs) s = s .0
-
-behind-first : (r : Range) (rs : List Range) → Searchable (r ∷ rs) → Searchable rs
-unfolding Searchable
-behind-first r [] s = tt
-behind-first r (next ∷ rs) s = s .2
 
 -- up to the high of its first range, the rest of a row is dead
 rest-dead : (r : Range) (rs : List Range) → Searchable (r ∷ rs) → (x : ℕ) → x ≤ r .high → goalAt 65535 rs x ≡ 65535

@@ -46,7 +46,7 @@ fn alive(target: Target) -> u32
 fn point(room: &[u32], state: u16, x: u32) -> u32
     ensures { λ r. ⌜ r ≡ pick (goesOn (now (room .entry)) state x) 1 0 ⌝ }
 {
-    alive(targets::char_target(room, state, x))
+    alive(char_targets::char_target(room, state, x))
 }
 
 // The points below 128.
@@ -136,7 +136,7 @@ fn row_points(room: &[u32], at: usize, count: u32) -> u64
 fn wide_points(room: &[u32], row: u32) -> u64
     ensures { λ r. ⌜ r ≡ wideSpans (now (room .entry)) row ⌝ }
 {
-    match targets::find_wide_row(room, row) {
+    match wide_rows::find_wide_row(room, row) {
         Found::At(p) => row_points(room, p, room[p]),
         Found::Absent => 0,
         Found::Outside => 0,

@@ -21,15 +21,15 @@ use Rattle.words.specs.declared.Place.{Place}
 use Rattle.words.specs.declared.Place.the-variants.{Next, Refused}
 use Rattle.words.specs.Parse as parse
 use Rattle.words.specs.Parse.{andThen}
-use Rattle.words.specs.Records.{runAt, wideAt, acceptAt, escapeAt, continuationAt}
+use Rattle.words.specs.Records.{runAt, wideAt, acceptAt, escapeAt, configAt, continuationAt}
 use Rattle.rules.specs.Rules.{everyFrom, walk, everyIn}
 use Rattle.rules.specs.Rules as rules
 use Rattle.rules.proofs.Laws.{rest, passed, failed, judged-all}
 use Rattle.room.specs.Room.{startsFrom, starts, each, shifted, placed, laterPlaces, places}
-use Rattle.room.proofs.Writing.{was, run-limit, wide-limit, accept-limit, escape-limit, continuation-limit}
+use Rattle.room.proofs.Writing.{was, record-limit}
 use Rattle.room.proofs.Records.{inner-fits, accept-flag, config-flag, config-other, continuation-configs, continuation-count}
 use Rattle.room.proofs.Tables.{before-1, before-2, before-3, before-4}
-use Rattle.judge.specs.Standing.{standsAt, fourStand, standing, plain, emptyFrom, escapePlaces, widePlaces}
+use Rattle.judge.specs.Standing.{standsAt, fourStand, eightStand, standing, plain, emptyFrom, escapePlaces, widePlaces, acceptPlain, configPlain, continuationPlain, flagsPlain}
 
 -- One number
 
@@ -62,6 +62,13 @@ unfolding fourStand
 stand-four a b c d n l e f g h = rw (e, f, g, h)
 
 pub ruleset standing-four = (needs, stand-four)
+
+-- and four behind those
+pub stand-eight : (a b c d e f g h : ℕ) (l : List ℕ) {p q : Bool} → p ≡ fourStand a b c d 1 l → q ≡ fourStand e f g h 5 l → (p && q) ≡ eightStand a b c d e f g h l
+unfolding eightStand
+stand-eight a b c d e f g h l i j = rw (i, j)
+
+pub ruleset standing-eight = (needs, stand-eight)
 
 pub plain-test : (x : ℕ) {ok : Bool} → ok ≡ leb x 1 → ok ≡ plain x
 unfolding plain
@@ -110,7 +117,7 @@ unfolding placed
 places-start read w d at n = refl
 
 -- what a loop over places is left with
-pub ruleset placing = (needs, places-start, place-passed, place-failed, place-lost, places-done, next-fits, run-limit, wide-limit, accept-limit, escape-limit, continuation-limit)
+pub ruleset placing = (needs, places-start, place-passed, place-failed, place-lost, places-done, next-fits, record-limit)
 
 -- One list behind another
 
@@ -182,7 +189,33 @@ unfolding everyIn rules.every
 flags-start read test w at = refl
 
 -- what a loop over records with flags is left with
-pub ruleset flagging = (needs, flags-start, passed, failed, lost, judged-all, was, inner-fits, accept-flag, config-flag, config-other, continuation-configs, continuation-count)
+pub ruleset flagging = (needs, flags-start, passed, failed, lost, judged-all, was, inner-fits)
+
+-- the flags of a record, and of all, by the tests that are made
+module _ (w : List ℕ) where
+  pub accept-plain : (s : ℕ) {p : Bool} → p ≡ plain (getD w (s + 1) 0) → p ≡ acceptPlain w s
+  unfolding acceptPlain
+  accept-plain s e = e
+
+  pub config-plain : (s : ℕ) {p q : Bool} → p ≡ plain (getD w (s + 2) 0) → q ≡ plain (getD w (s + 3) 0) → (p && q) ≡ configPlain w s
+  unfolding configPlain
+  config-plain s e f = rw (e, f)
+
+  pub continuation-plain : (s k : ℕ) {p : Bool} → p ≡ everyIn configAt (configPlain w) w (s + k) → k ≡ getD w s 0 * 3 + 1 → p ≡ continuationPlain w s
+  unfolding continuationPlain
+  continuation-plain s k e i = rw (← i) e
+
+  pub flags-plain : (x c : ℕ) {p q : Bool} → p ≡ everyIn acceptAt (acceptPlain w) w x → q ≡ everyIn continuationAt (continuationPlain w) w c → (p && q) ≡ flagsPlain w x c
+  unfolding flagsPlain
+  flags-plain x c e f = rw (e, f)
+
+pub ruleset accept-flags = (needs, inner-fits, accept-flag, accept-plain)
+
+pub ruleset config-flags = (needs, inner-fits, config-flag, config-other, config-plain)
+
+pub ruleset continuation-flags = (needs, inner-fits, continuation-configs, continuation-count, continuation-plain)
+
+pub ruleset all-flags = (needs, flags-plain)
 
 -- Zeros
 

@@ -4,10 +4,11 @@ ghost use mathlib.Core.Path.{_≡_};
 ghost use Prim.Native.Nat.{_≤_, _<_, _+_};
 ghost use lib.ListN.{length};
 ghost use Rattle.words.specs.Parse.{refused};
-ghost use Rattle.words.specs.Records.{runAt, wideAt, acceptAt, escapeAt, continuationAt};
+ghost use Rattle.records.specs.Kinds.{recordAt};
 ghost use Rattle.refusal.specs.Said.{NOT-TABLE};
 ghost use Rattle.room.specs.Room.{placed, laterPlaces, places};
 ghost use Rattle.judge.specs.Standing.{standsAt, fourStand, eightStand, standing, escapePlaces, widePlaces};
+use records::Kind;
 use refusal::NOT_TABLE;
 use refusal::Refusal;
 use words::Place;
@@ -64,129 +65,17 @@ pub(crate) fn eight_stand(
         & four_stand(wide_rows, accepts, escape_rows, continuations, room, 5)
 }
 
-// The places of the runs, whose count stands at `at`.
-fn run_places_stand(words: &[u32], at: usize, room: &[u32], n: usize) -> Place
+// The places of the records of a kind, whose count stands at `at`.
+fn record_places_stand(kind: Kind, words: &[u32], at: usize, room: &[u32], n: usize) -> Place
     requires within { ⌜ at < length (now words) ⌝ }
     requires limit { ⌜ length (now words) ≤ 8192 ⌝ }
-    ensures { λ r. ⌜ r ≡ standing (placed runAt (now (words .entry)) at) n (now (room .entry)) ⌝ }
+    ensures { λ r. ⌜ r ≡ standing (placed (recordAt kind) (now (words .entry)) at) n (now (room .entry)) ⌝ }
 {
     let mut here = at + 1;
     let mut left = words[at];
     let mut m = n;
     while 0 < left {
-        match simple_words::read_run(words, here) {
-            Place::Next(p) => {
-                if place_stands(here, room, m) {
-                    here = p;
-                    left -= 1;
-                    m += 1;
-                } else {
-                    return differs();
-                }
-            }
-            Place::Refused(_) => {
-                return Place::Next(m);
-            }
-        }
-    }
-    Place::Next(m)
-}
-
-// The places of the wide rows, whose count stands at `at`.
-fn wide_row_places_stand(words: &[u32], at: usize, room: &[u32], n: usize) -> Place
-    requires within { ⌜ at < length (now words) ⌝ }
-    requires limit { ⌜ length (now words) ≤ 8192 ⌝ }
-    ensures { λ r. ⌜ r ≡ standing (placed wideAt (now (words .entry)) at) n (now (room .entry)) ⌝ }
-{
-    let mut here = at + 1;
-    let mut left = words[at];
-    let mut m = n;
-    while 0 < left {
-        match listed_words::read_wide_row(words, here) {
-            Place::Next(p) => {
-                if place_stands(here, room, m) {
-                    here = p;
-                    left -= 1;
-                    m += 1;
-                } else {
-                    return differs();
-                }
-            }
-            Place::Refused(_) => {
-                return Place::Next(m);
-            }
-        }
-    }
-    Place::Next(m)
-}
-
-// The places of the accepts, whose count stands at `at`.
-fn accept_places_stand(words: &[u32], at: usize, room: &[u32], n: usize) -> Place
-    requires within { ⌜ at < length (now words) ⌝ }
-    requires limit { ⌜ length (now words) ≤ 8192 ⌝ }
-    ensures { λ r. ⌜ r ≡ standing (placed acceptAt (now (words .entry)) at) n (now (room .entry)) ⌝ }
-{
-    let mut here = at + 1;
-    let mut left = words[at];
-    let mut m = n;
-    while 0 < left {
-        match listed_words::read_accept(words, here) {
-            Place::Next(p) => {
-                if place_stands(here, room, m) {
-                    here = p;
-                    left -= 1;
-                    m += 1;
-                } else {
-                    return differs();
-                }
-            }
-            Place::Refused(_) => {
-                return Place::Next(m);
-            }
-        }
-    }
-    Place::Next(m)
-}
-
-// The places of the escape rows, whose count stands at `at`.
-fn escape_row_places_stand(words: &[u32], at: usize, room: &[u32], n: usize) -> Place
-    requires within { ⌜ at < length (now words) ⌝ }
-    requires limit { ⌜ length (now words) ≤ 8192 ⌝ }
-    ensures { λ r. ⌜ r ≡ standing (placed escapeAt (now (words .entry)) at) n (now (room .entry)) ⌝ }
-{
-    let mut here = at + 1;
-    let mut left = words[at];
-    let mut m = n;
-    while 0 < left {
-        match listed_words::read_escape_row(words, here) {
-            Place::Next(p) => {
-                if place_stands(here, room, m) {
-                    here = p;
-                    left -= 1;
-                    m += 1;
-                } else {
-                    return differs();
-                }
-            }
-            Place::Refused(_) => {
-                return Place::Next(m);
-            }
-        }
-    }
-    Place::Next(m)
-}
-
-// The places of the continuations, whose count stands at `at`.
-fn continuation_places_stand(words: &[u32], at: usize, room: &[u32], n: usize) -> Place
-    requires within { ⌜ at < length (now words) ⌝ }
-    requires limit { ⌜ length (now words) ≤ 8192 ⌝ }
-    ensures { λ r. ⌜ r ≡ standing (placed continuationAt (now (words .entry)) at) n (now (room .entry)) ⌝ }
-{
-    let mut here = at + 1;
-    let mut left = words[at];
-    let mut m = n;
-    while 0 < left {
-        match continuation_words::read_continuation(words, here) {
+        match records::read_record(kind, words, here) {
             Place::Next(p) => {
                 if place_stands(here, room, m) {
                     here = p;
@@ -216,8 +105,8 @@ fn escape_places_stand(
     requires limit { ⌜ length (now words) ≤ 8192 ⌝ }
     ensures { λ r. ⌜ r ≡ standing (escapePlaces (now (words .entry)) «escape_rows» continuations) n (now (room .entry)) ⌝ }
 {
-    match escape_row_places_stand(words, escape_rows, room, n) {
-        Place::Next(p) => continuation_places_stand(words, continuations, room, p),
+    match record_places_stand(Kind::EscapeRow, words, escape_rows, room, n) {
+        Place::Next(p) => record_places_stand(Kind::Continuation, words, continuations, room, p),
         Place::Refused(r) => Place::Refused(r),
     }
 }
@@ -235,7 +124,7 @@ fn later_places_stand(
     requires limit { ⌜ length (now words) ≤ 8192 ⌝ }
     ensures { λ r. ⌜ r ≡ standing (laterPlaces (now (words .entry)) accepts «escape_rows» continuations) n (now (room .entry)) ⌝ }
 {
-    match accept_places_stand(words, accepts, room, n) {
+    match record_places_stand(Kind::Accept, words, accepts, room, n) {
         Place::Next(p) => escape_places_stand(words, escape_rows, continuations, room, p),
         Place::Refused(r) => Place::Refused(r),
     }
@@ -256,7 +145,7 @@ fn wide_places_stand(
     requires limit { ⌜ length (now words) ≤ 8192 ⌝ }
     ensures { λ r. ⌜ r ≡ standing (widePlaces (now (words .entry)) «wide_rows» accepts «escape_rows» continuations) n (now (room .entry)) ⌝ }
 {
-    match wide_row_places_stand(words, wide_rows, room, n) {
+    match record_places_stand(Kind::WideRow, words, wide_rows, room, n) {
         Place::Next(p) => later_places_stand(words, accepts, escape_rows, continuations, room, p),
         Place::Refused(r) => Place::Refused(r),
     }
@@ -278,7 +167,7 @@ pub(crate) fn places_stand(
     requires limit { ⌜ length (now words) ≤ 8192 ⌝ }
     ensures { λ r. ⌜ r ≡ standing (places (now (words .entry)) runs «wide_rows» accepts «escape_rows» continuations) n (now (room .entry)) ⌝ }
 {
-    match run_places_stand(words, runs, room, n) {
+    match record_places_stand(Kind::AsciiRun, words, runs, room, n) {
         Place::Next(p) => {
             wide_places_stand(
                 words,

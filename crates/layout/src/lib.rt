@@ -1,14 +1,13 @@
 // Where the sections of a table start: the words are read once, section by section, or refused by number and place.
 ghost use mathlib.Core.Path.{_≡_};
 ghost use Rattle.layout.specs.Layout.{unfound, atEnd, fromModes, fromStates, fromRuns, fromAsciiRows, fromWideRows, fromAccepts, fromEscapeRows, fromContinuations, layoutOf};
+use records::Kind;
 use refusal::LEFT;
 use refusal::Refusal;
 use refusal::SERIALIZED_TAG;
 use refusal::SHORT;
 use refusal::TAG;
 use words::Place;
-
-mod readers;
 
 // The places of the sections' counts, or why the words are no table.
 pub enum Sections {
@@ -75,7 +74,7 @@ fn from_continuations(
 ) -> Sections
     ensures { λ r. ⌜ r ≡ fromContinuations (now (words .entry)) modes states runs ascii wide accepts escapes continuations ⌝ }
 {
-    match readers::read_continuations(words, continuations) {
+    match records::read_section(Kind::Continuation, words, continuations) {
         Place::Next(end) => at_end(
             words,
             modes,
@@ -104,7 +103,7 @@ fn from_escape_rows(
 ) -> Sections
     ensures { λ r. ⌜ r ≡ fromEscapeRows (now (words .entry)) modes states runs ascii wide accepts escapes ⌝ }
 {
-    match readers::read_escape_rows(words, escapes) {
+    match records::read_section(Kind::EscapeRow, words, escapes) {
         Place::Next(continuations) => from_continuations(
             words,
             modes,
@@ -131,7 +130,7 @@ fn from_accepts(
 ) -> Sections
     ensures { λ r. ⌜ r ≡ fromAccepts (now (words .entry)) modes states runs ascii wide accepts ⌝ }
 {
-    match readers::read_accepts(words, accepts) {
+    match records::read_section(Kind::Accept, words, accepts) {
         Place::Next(escapes) => from_escape_rows(
             words,
             modes,
@@ -156,7 +155,7 @@ fn from_wide_rows(
 ) -> Sections
     ensures { λ r. ⌜ r ≡ fromWideRows (now (words .entry)) modes states runs ascii wide ⌝ }
 {
-    match readers::read_wide_rows(words, wide) {
+    match records::read_section(Kind::WideRow, words, wide) {
         Place::Next(accepts) => from_accepts(words, modes, states, runs, ascii, wide, accepts),
         Place::Refused(r) => Sections::Unfound(r),
     }
@@ -171,7 +170,7 @@ fn from_ascii_rows(
 ) -> Sections
     ensures { λ r. ⌜ r ≡ fromAsciiRows (now (words .entry)) modes states runs ascii ⌝ }
 {
-    match readers::read_ascii_rows(words, ascii) {
+    match records::read_section(Kind::AsciiRow, words, ascii) {
         Place::Next(wide) => from_wide_rows(words, modes, states, runs, ascii, wide),
         Place::Refused(r) => Sections::Unfound(r),
     }
@@ -180,7 +179,7 @@ fn from_ascii_rows(
 fn from_runs(words: &[u32], modes: usize, states: usize, runs: usize) -> Sections
     ensures { λ r. ⌜ r ≡ fromRuns (now (words .entry)) modes states runs ⌝ }
 {
-    match readers::read_ascii_runs(words, runs) {
+    match records::read_section(Kind::AsciiRun, words, runs) {
         Place::Next(ascii) => from_ascii_rows(words, modes, states, runs, ascii),
         Place::Refused(r) => Sections::Unfound(r),
     }
@@ -189,7 +188,7 @@ fn from_runs(words: &[u32], modes: usize, states: usize, runs: usize) -> Section
 fn from_states(words: &[u32], modes: usize, states: usize) -> Sections
     ensures { λ r. ⌜ r ≡ fromStates (now (words .entry)) modes states ⌝ }
 {
-    match readers::read_states(words, states) {
+    match records::read_section(Kind::State, words, states) {
         Place::Next(runs) => from_runs(words, modes, states, runs),
         Place::Refused(r) => Sections::Unfound(r),
     }
@@ -198,7 +197,7 @@ fn from_states(words: &[u32], modes: usize, states: usize) -> Sections
 fn from_modes(words: &[u32], modes: usize) -> Sections
     ensures { λ r. ⌜ r ≡ fromModes (now (words .entry)) modes ⌝ }
 {
-    match readers::read_modes(words, modes) {
+    match records::read_section(Kind::Mode, words, modes) {
         Place::Next(states) => from_states(words, modes, states),
         Place::Refused(r) => Sections::Unfound(r),
     }

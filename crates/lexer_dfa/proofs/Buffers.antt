@@ -22,7 +22,7 @@ use Rattle.transitions.proofs.Order.{le-cases}
 use Rattle.segments.specs.Segments.{Asc, cutsOf, starts, startsFrom, segments, segmentsFrom}
 use Rattle.masks.specs.Masks.{bit, wordsFor, maskOf, masksAt, matrix, flat, distinct, distinctOf}
 use Rattle.masks.proofs.Answers.{length-mask}
-use Rattle.masks.proofs.Distincts.{Wide, wide-distinct}
+use Rattle.distinct_masks.proofs.Distincts.{Wide, length-flat, wide-distinct}
 use Rattle.row_laws.specs.Row.{Row, numbers}
 use Rattle.row_laws.specs.Demand.{heldBy, maskBit, segmentMaskFrom, segmentMaskOver, segmentMask}
 use Rattle.row_laws.proofs.Built.{asc-cuts}
@@ -87,6 +87,9 @@ module _ (ts : List Transition) where
   wide-masks (p ∷ ps) = (length-mask ts p, wide-masks ps)
 
   -- the distinct masks in their buffer
+  pub length-distinct : length (flat (distinctOf ts)) ≡ length (distinctOf ts) * wordsFor (length ts)
+  length-distinct = length-flat (wordsFor (length ts)) (distinctOf ts) (wide-distinct (wordsFor (length ts)) [] (matrix ts) tt (wide-masks (starts (cutsOf ts))))
+
   pub bit-distinct : (n k i : ℕ) → k < length (distinctOf ts) → i < length ts →
       bitAt (padded n (flat (distinctOf ts))) (k * wordsFor (length ts)) i ≡ maskBit (getD (distinctOf ts) k []) i
   bit-distinct n k i h l =

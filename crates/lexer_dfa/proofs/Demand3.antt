@@ -28,8 +28,9 @@ use Rattle.masks.specs.declared.Masks.the-variants as variant
 use Rattle.masks.specs.declared.Masks.the-variants.{Count}
 use Rattle.masks.specs.Masks.{bit, wordsFor, flat, matrix, distinctOf}
 use Rattle.masks.specs.Answer as masks
-use Rattle.masks.specs.Answer.{parseMasks, parseDistinct, masksIn, Matrix}
+use Rattle.masks.specs.Answer.{parseMasks, parseDistinct, masksIn, Matrix, Distinct}
 use Rattle.masks.proofs.Answers.{length-masks}
+use Rattle.distinct_masks.proofs.Answers.{accepted-list}
 use Rattle.row_laws.specs.Row.{DEAD, numbers}
 use Rattle.row_laws.specs.Build.{targetRow, asciiOf, wideOf, escapeOf}
 use Rattle.row_laws.specs.Demand as law
@@ -42,8 +43,9 @@ use Rattle.rows.specs.declared.Rows.{Rows}
 use Rattle.rows.specs.declared.Rows.the-variants.{Built, Refused}
 use Rattle.rows.specs.Answer.{said, Lent, lent, withRows, parseRows, counted, asciiIn, wideIn, escapeIn, Builds}
 use Rattle.rows.proofs.Joining.{length-numbers}
-use Rattle.lexer_dfa.specs.Demand3.{Read, listOf, wordsOf, bitAt, RowArgs, RowsLeft, BuildAnswers, Asked, searchedFor, targetAt, contAt, Placed, RowsKept, RowsIn, SameLookups, SameAnswers, SameRows, MatrixAnswers, pointBit, MasksAsked, MasksKept, Flipped}
-use Rattle.lexer_dfa.proofs.Buffers.{padded-at, padded-front, padded-stands, searched-is, searched-front, bit-distinct, bit-holds}
+use Rattle.rows.proofs.Building.{rows-asked}
+use Rattle.lexer_dfa.specs.Demand3.{Read, listOf, wordsOf, bitAt, RowArgs, RowsLeft, BuildAnswers, Asked, searchedFor, targetAt, contAt, Placed, RowsKept, RowsIn, SameLookups, SameAnswers, SameRows, MatrixAnswers, pointBit, MasksAsked, MasksKept, Flipped, DistinctAnswers, MasksAgree}
+use Rattle.lexer_dfa.proofs.Buffers.{padded-at, padded-front, padded-stands, searched-is, searched-front, length-distinct, bit-distinct, bit-holds}
 
 -- The rows of a list, as they stand in the buffers
 
@@ -317,4 +319,56 @@ masks-flipped list segments masks q x s m b list′ segments′ masks′ q′ y 
           let one = ap (λ (k : List ℕ). law.maskBit k i) (segment-mask (listOf v) p order h) ∙ mask-exact (listOf v) p i l in
           let two = ap (λ (k : List ℕ). law.maskBit k i) (segment-mask (listOf w) p order′ h) ∙ mask-exact (listOf w) p i l′ in
           second .bits p i h l′ ∙ sym two ∙ flipped (listOf v) (listOf w) order order′ c p i h l ∙ ap (λ (k : ℕ). 1 - k) (one ∙ sym (first .bits p i h l));
+    }
+
+-- The masks that a caller is told of, and those by which it gives targets
+
+-- the row call answers rows of a list that was read, with as many targets and continuations as it has distinct masks
+built-parsed : {n m : ℕ} {given : Lent} {seg masks : List ℕ} {l : RowsLeft} {targets conts : List ℕ} (x : Parsed) →
+    Builds (Built n m) given seg masks (l .distinct) (l .ascii) (l .wide) (l .escape) targets conts x → (ts : List Transition) × (x ≡ parsed ts)
+unfolding counted
+built-parsed (parsed ts) b = (ts, refl)
+built-parsed (refused k p) b = let e = b .says in let z : _≡_ {A = ℕ} 0 1 = cc in absurd (omega arith)
+
+-- the call for distinct masks answers those of a list that was read
+record Counted (n k : ℕ) (r : ℕ) (d : List ℕ) (x : Parsed) : Type 0 where
+  ts : List Transition
+  is : x ≡ parsed ts
+  count : n ≡ length (distinctOf ts)
+  words : k ≡ wordsFor (length ts)
+  stands : d ≡ padded r (flat (distinctOf ts))
+
+counted-parsed : {n k s : ℕ} {seg : List ℕ} {j : ℕ} {masks : List ℕ} (r : ℕ) {d : List ℕ} (x : Parsed) → Distinct (Count n k) s seg j masks r d x → Counted n k r d x
+unfolding masks.counted masksIn
+counted-parsed r (parsed ts) b = let e = b .says in record { ts = ts; is = refl; count = cc; words = cc; stands = b .leaves }
+counted-parsed r (refused k p) b = let e = b .says in let z : _≡_ {A = ℕ} 0 1 = cc in absurd (omega arith)
+
+one-list : {ts us : List Transition} → parsed ts ≡ parsed us → ts ≡ us
+one-list e = cc
+
+-- THEOREM: the masks that `distinct_masks` tells of a list are those by which `build_rows` was given targets and continuations for it
+pub masks-agree : (list segments masks out : RefT (List ℕ)) (n k : ℕ) (d : List ℕ) → DistinctAnswers list segments masks out (Count n k) d →
+    (a : RowArgs) (w e : ℕ) (l : RowsLeft) → BuildAnswers a (Built w e) l → a .list .now ≡ list .now → MasksAgree n k d (a .targets .now) (a .conts .now) l
+masks-agree list segments masks out n k d b a w e l y same =
+    let bytes = list .now in
+    let f = given a (Built w e) l y in
+    let built = built-parsed _ (f .built) in
+    let ts = built .0 in
+    let asked = rows-asked (lentBy a) (a .targets .now) (a .conts .now) (parseDistinct (length (a .segments .now)) (length (a .masks .now)) (length (a .distinct .now)) (a .list .now)) (built .1) in
+    let read = ap parse (sym same) ∙ accepted-list (length (a .segments .now)) (length (a .masks .now)) (length (a .distinct .now)) (a .list .now) ts (asked .0) in
+    let laid = built-laid ts (subst (λ (x : Parsed). Builds (Built w e) (lentBy a) (f .segments) (f .masks) (l .distinct) (l .ascii) (l .wide) (l .escape) (a .targets .now) (a .conts .now) x) (built .1) (f .built)) in
+    let tells = counted-parsed (length (out .now)) (parseDistinct (length (segments .now)) (length (masks .now)) (length (out .now)) bytes) (rw (b .3) at (b .2)) in
+    let one : tells .ts ≡ ts = one-list (sym (accepted-list (length (segments .now)) (length (masks .now)) (length (out .now)) bytes (tells .ts) (tells .is)) ∙ read) in
+    let count : n ≡ length (distinctOf ts) = tells .count ∙ ap (λ (x : List Transition). length (distinctOf x)) one in
+    let size : n * k ≡ length (flat (distinctOf ts)) =
+    ap₂ (λ (x y : ℕ). x * y) count (tells .words ∙ ap (λ (x : List Transition). wordsFor (length x)) one) ∙ sym (length-distinct ts) in
+    record {
+      a-target-each = asked .1 ∙ sym count;
+      a-continuation-each = asked .2 ∙ sym count;
+      same =
+          ap₂ (λ (j : ℕ) (x : List ℕ). take j x) size (tells .stands ∙ ap (λ (x : List Transition). padded (length (out .now)) (flat (distinctOf x))) one)
+          ∙ padded-front (length (out .now)) (flat (distinctOf ts))
+          ∙ sym
+          (ap₂ (λ (j : ℕ) (x : List ℕ). take j x) size (laid .distinct-is)
+          ∙ padded-front (laid .distinct-room) (flat (distinctOf ts)));
     }

@@ -78,7 +78,7 @@ leaves-left {w} {d} l =
     (ap accepted (sym x-is) ∙ said-accepted (l .answer) (l .accepted), d-is)
 
 -- such a room is a table, and has as many words
-leaves-table : {w d : List ℕ} → Leaves w d → (isTable d ≡ true) × (length (wordsPart d) ≡ length w)
+pub leaves-table : {w d : List ℕ} → Leaves w d → (isTable d ≡ true) × (length (wordsPart d) ≡ length w)
 leaves-table {w} {d} l =
     let o = leaves-left l in
     let t = round-trip w (length d) (l .fit) (o .0) in
@@ -94,7 +94,7 @@ part-fits d f i h =
     subst (λ x. x < 4294967296) (sym e) (f (9 + i) (omega arith))
 
 -- a room that is a table is left for its own words
-table-leaves : Lfts 2 → (room : RefT (List ℕ)) → Fit (room .now) → isTable (room .now) ≡ true → Leaves (wordsPart (room .now)) (room .now)
+pub table-leaves : Lfts 2 → (room : RefT (List ℕ)) → Fit (room .now) → isTable (room .now) ≡ true → Leaves (wordsPart (room .now)) (room .now)
 unfolding wordsPart
 table-leaves κs room f h =
     let d = room .now in
@@ -162,7 +162,7 @@ module _ (d : List ℕ) (n : ℕ) where
   numbered (narrow i _ _ _) = inr i
 
   -- a room that is not left for any words is no table
-  none-left : (isTable d ≡ true → ⊥) → isTable d ≡ false
+  pub none-left : (isTable d ≡ true → ⊥) → isTable d ≡ false
   none-left h = go (isTable d) refl
     where
       go : (b : Bool) → isTable d ≡ b → isTable d ≡ false
@@ -177,7 +177,7 @@ module _ (d : List ℕ) (n : ℕ) where
 
 -- The call, by its own contract. As of the words of decode, that the room's numbers have 32 bits is a premise
 
--- "Encoding .. NOT-TABLE exactly when the room isn't what decoding leaves for some accepted words; encoding gives ROOM next, when the output is shorter than
+-- "Encoding and coverage give NOT-TABLE exactly when the room isn't what decoding leaves for some accepted words; encoding gives ROOM next, when the output is shorter than
 -- needed": and else it accepts, so that every room that it accepts comes from decoding
 pub encode-answers : (room out : RefT (List ℕ)) → Fit (room .now) → (x : Encoded) (left : List ℕ) → EncodeAnswers room out x left →
     EncodedBy (room .now) (length (out .now)) (said x)

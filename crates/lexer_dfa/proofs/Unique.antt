@@ -33,6 +33,8 @@ use Rattle.listed_words.proofs.read_accept.Reads as read-accept
 use Rattle.listed_words.proofs.read_escape_row.Reads as read-escape-row
 use Rattle.listed_words.proofs.read_config.Reads as read-config
 use Rattle.continuation_words.proofs.read_continuation.Reads as read-continuation
+use Rattle.records.proofs.read_record.Reads as read-record
+use Rattle.records.proofs.read_section.Reads as read-section
 use Rattle.layout.proofs.find_sections.Reads as find-sections
 use Rattle.rules.proofs.word_at.Reads as word-at
 use Rattle.rules.proofs.word_past.Reads as word-past
@@ -171,6 +173,12 @@ pub read-continuation-unique : Determines read-continuation.Learnt
 read-continuation-unique κs a x y e f p q = p ∙ sym q
 
 -- layout
+
+pub read-record-unique : Determines read-record.Learnt
+read-record-unique κs a x y e f p q = p ∙ sym q
+
+pub read-section-unique : Determines read-section.Learnt
+read-section-unique κs a x y e f p q = p ∙ sym q
 
 pub find-sections-unique : Determines find-sections.Learnt
 find-sections-unique κs a x y e f p q = p ∙ sym q

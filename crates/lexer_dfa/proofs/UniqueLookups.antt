@@ -7,39 +7,41 @@ use Rattle.room_read.specs.Part.{PartOf}
 use Rattle.room_read.proofs.record_in.Reads as record-in
 use Rattle.room_read.proofs.listed_in.Reads as listed-in
 use Rattle.room_read.proofs.find_state.Reads as find-state
-use Rattle.room_read.proofs.search_row.Reads as search-row
+use Rattle.row_search.proofs.search_row.Reads as search-row
 use Rattle.modes.proofs.mode_start.Reads as mode-start
 use Rattle.modes.proofs.state_count.Reads as state-count
-use Rattle.modes.proofs.find_modes.Reads as find-modes
-use Rattle.modes.proofs.has_compiled_modes.Reads as has-compiled-modes
+use Rattle.all_modes.proofs.find_modes.Reads as find-modes
+use Rattle.all_modes.proofs.has_compiled_modes.Reads as has-compiled-modes
 use Rattle.modes.proofs.Laws as modes
 use Rattle.mode_counts.proofs.compiled_mode_flags.Reads as compiled-mode-flags
 use Rattle.mode_counts.proofs.mode_state_counts.Reads as mode-state-counts
 use Rattle.mode_counts.proofs.Answers as mode-counts
 use Rattle.targets.proofs.ascii_target.Reads as ascii-target
-use Rattle.targets.proofs.char_target.Reads as char-target
-use Rattle.targets.proofs.eof_target.Reads as eof-target
-use Rattle.targets.proofs.find_wide_row.Reads as find-wide-row
+use Rattle.char_targets.proofs.char_target.Reads as char-target
+use Rattle.char_targets.proofs.eof_target.Reads as eof-target
+use Rattle.wide_rows.proofs.find_wide_row.Reads as find-wide-row
 use Rattle.targets.proofs.Laws as targets
 use Rattle.accepts.proofs.accept.Reads as accept
-use Rattle.accepts.proofs.accept_record.Reads as accept-record
-use Rattle.accepts.proofs.accept_actions.Reads as accept-actions
-use Rattle.accepts.proofs.accept_actions_span.Reads as accept-actions-span
+use Rattle.accept_records.proofs.accept_record.Reads as accept-record
+use Rattle.record_parts.proofs.accept_actions.Reads as accept-actions
+use Rattle.accept_records.proofs.accept_actions_span.Reads as accept-actions-span
 use Rattle.accepts.proofs.Laws as accepts
 use Rattle.continuations.proofs.char_continuation.Reads as char-continuation
 use Rattle.continuations.proofs.eof_continuation.Reads as eof-continuation
 use Rattle.continuations.proofs.Laws as continuations
-use Rattle.configs.proofs.continuation_record.Reads as continuation-record
-use Rattle.configs.proofs.continuation_contexts.Reads as continuation-contexts
-use Rattle.configs.proofs.continuation_configs.Reads as continuation-configs
-use Rattle.configs.proofs.continuation_contexts_span.Reads as continuation-contexts-span
-use Rattle.configs.proofs.continuation_configs_span.Reads as continuation-configs-span
+use Rattle.continuation_records.proofs.continuation_record.Reads as continuation-record
+use Rattle.record_parts.proofs.continuation_contexts.Reads as continuation-contexts
+use Rattle.record_parts.proofs.continuation_configs.Reads as continuation-configs
+use Rattle.continuation_records.proofs.continuation_contexts_span.Reads as continuation-contexts-span
+use Rattle.continuation_records.proofs.continuation_configs_span.Reads as continuation-configs-span
+use Rattle.configs.proofs.find_whole.Reads as find-whole
 use Rattle.configs.proofs.Laws as configs
 use Rattle.coverage.proofs.coverage.Reads as coverage
 use Rattle.coverage.proofs.Laws as covered
+use Rattle.state_run.proofs.find_run.Reads as find-run
 use Rattle.state_run.proofs.ascii_run.Reads as ascii-run
-use Rattle.state_run.proofs.scan_ascii_run.Reads as scan-ascii-run
-use Rattle.state_run.proofs.scan_ascii_run_length.Reads as scan-ascii-run-length
+use Rattle.state_scan.proofs.scan_ascii_run.Reads as scan-ascii-run
+use Rattle.state_scan_length.proofs.scan_ascii_run_length.Reads as scan-ascii-run-length
 use Rattle.state_run.proofs.Laws as state-run
 use Rattle.ascii_run.proofs.Answers.{given}
 use Rattle.unique.specs.Unique.{Determines, DeterminesPart, DeterminesBoth}
@@ -55,6 +57,8 @@ listed-in-unique κs a x y e f p q = p ∙ sym q
 pub find-state-unique : Determines find-state.Learnt
 find-state-unique κs a x y e f p q = p ∙ sym q
 
+-- row_search
+
 pub search-row-unique : Determines search-row.Learnt
 search-row-unique κs a x y e f p q = p ∙ sym q
 
@@ -62,7 +66,7 @@ search-row-unique κs a x y e f p q = p ∙ sym q
 part-one : (room : RefT (List ℕ)) (from n : ℕ) (x y : RefT (List ℕ)) → PartOf room from n x → PartOf room from n y → (x .ptr ≡ y .ptr) × (x .now ≡ y .now)
 part-one room from n x y p q = (p .itself ∙ sym (q .itself), p .numbers ∙ sym (q .numbers))
 
--- modes
+-- modes, all_modes
 
 pub mode-start-unique : Determines mode-start.Learnt
 mode-start-unique κs a x y e f p q = modes.said-one x y (p ∙ sym q)
@@ -76,7 +80,7 @@ find-modes-unique κs a x y e f p q = p ∙ sym q
 pub has-compiled-modes-unique : Determines has-compiled-modes.Learnt
 has-compiled-modes-unique κs a x y e f p q = modes.compiled-said-one x y (p ∙ sym q)
 
--- targets
+-- targets, wide_rows, char_targets
 
 pub ascii-target-unique : Determines ascii-target.Learnt
 ascii-target-unique κs a x y e f p q = targets.said-one x y (p ∙ sym q)
@@ -90,7 +94,7 @@ eof-target-unique κs a x y e f p q = targets.said-one x y (p ∙ sym q)
 pub find-wide-row-unique : Determines find-wide-row.Learnt
 find-wide-row-unique κs a x y e f p q = p ∙ sym q
 
--- accepts
+-- accepts, accept_records, record_parts
 
 pub accept-unique : Determines accept.Learnt
 accept-unique κs a x y e f p q = accepts.said-one x y (p ∙ sym q)
@@ -112,7 +116,10 @@ char-continuation-unique κs a x y e f p q = continuations.said-one x y (p ∙ s
 pub eof-continuation-unique : Determines eof-continuation.Learnt
 eof-continuation-unique κs a x y e f p q = continuations.said-one x y (p ∙ sym q)
 
--- configs
+-- configs, continuation_records, record_parts
+
+pub find-whole-unique : Determines find-whole.Learnt
+find-whole-unique κs a x y e f p q = p ∙ sym q
 
 pub continuation-record-unique : Determines continuation-record.Learnt
 continuation-record-unique κs a x y e f p q = configs.said-one x y (p ∙ sym q)
@@ -134,7 +141,10 @@ continuation-configs-span-unique κs a x y e f p q = p ∙ sym q
 pub coverage-unique : Determines coverage.Learnt
 coverage-unique κs a x y e f p q = covered.said-one x y (p ∙ sym q)
 
--- state_run
+-- state_run, state_scan, state_scan_length
+
+pub find-run-unique : Determines find-run.Learnt
+find-run-unique κs a x y e f p q = p ∙ sym q
 
 pub ascii-run-unique : Determines ascii-run.Learnt
 ascii-run-unique κs a x y e f p q = given _ p ∙ sym (given _ q)

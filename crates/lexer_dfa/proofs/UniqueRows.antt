@@ -3,15 +3,16 @@ use Prim.Native.Nat.{ℕ}
 use mathlib.Core.Path.{_≡_, refl, sym, ap₂, _∙_}
 use mathlib.Core.List.{List, [], _∷_}
 use Rattle.transitions.proofs.read_transitions.Reads as read-transitions
-use Rattle.transitions.proofs.read_intervals.Reads as read-intervals
+use Rattle.interval_ends.proofs.read_intervals.Reads as read-intervals
 use Rattle.transitions.proofs.Records as transitions
 use Rattle.segments.proofs.char_segments.Reads as char-segments
 use Rattle.segments.proofs.Answers as segments
 use Rattle.masks.proofs.segment_mask_matrix.Reads as segment-mask-matrix
-use Rattle.masks.proofs.distinct_masks.Reads as distinct-masks
+use Rattle.distinct_masks.proofs.distinct_masks.Reads as distinct-masks
 use Rattle.masks.proofs.Answers as masks
-use Rattle.pools.proofs.intern_ascii.Reads as intern-ascii
-use Rattle.pools.proofs.intern_wide.Reads as intern-wide
+use Rattle.pools.proofs.refuse.Reads as refuse
+use Rattle.ascii_pool.proofs.intern_ascii.Reads as intern-ascii
+use Rattle.wide_pool.proofs.intern_wide.Reads as intern-wide
 use Rattle.pools.proofs.Answers as pools
 use Rattle.unique.specs.Unique.{Determines, DeterminesBoth, DeterminesAll}
 
@@ -44,7 +45,10 @@ pub distinct-masks-unique : DeterminesAll (λ κs e. e .1 .0 .now ∷ e .1 .1 .0
 distinct-masks-unique κs a x y e f p q =
     (masks.said-one x y (p .says ∙ sym (q .says)), and (p .low-high ∙ sym (q .low-high)) (and (p .each ∙ sym (q .each)) (and (p .leaves ∙ sym (q .leaves)) refl)))
 
--- pools: the pool is the first that is lent
+-- pools: a refusal; and what is left, where the pool is the first that is lent
+
+pub pool-refuse-unique : Determines refuse.Learnt
+pool-refuse-unique κs a x y e f p q = pools.said-one x y (p ∙ sym q)
 
 pub intern-ascii-unique : DeterminesBoth (λ κs e. e .0) intern-ascii.Learnt
 intern-ascii-unique κs a x y e f p q = (pools.said-one x y (p .says ∙ sym (q .says)), p .leaves ∙ sym (q .leaves))

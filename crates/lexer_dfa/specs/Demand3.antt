@@ -20,6 +20,7 @@ use Rattle.masks.specs.declared.Masks.{Masks}
 use Rattle.masks.specs.declared.Masks.the-variants.{Count}
 use Rattle.masks.specs.Masks.{bit, wordsFor, distinctOf}
 use Rattle.masks.proofs.segment_mask_matrix.Reads as matrix
+use Rattle.distinct_masks.proofs.distinct_masks.Reads as distinct
 use Rattle.row_laws.specs.Row.{Row, DEAD, Each, numbers}
 use Rattle.row_laws.specs.Demand.{heldBy, OneOf}
 use Rattle.rows.specs.declared.Rows.{Rows}
@@ -200,3 +201,15 @@ pub record Flipped (v : List ℕ) (x : Masks) (s m : List ℕ) (w : List ℕ) (y
   pub as-many : length (listOf v) ≡ length (listOf w)
   pub flips : (p i : ℕ) → p < points → i < length (listOf v) →
       pointBit s′ m′ (second .count) (wordsOf w) p i ≡ 1 - pointBit s m (first .count) (wordsOf v) p i
+
+-- `distinct_masks` may answer x by its own contract, and leave these numbers in the buffer for distinct masks
+abbrev pub DistinctAnswers : (list segments masks out : RefT (List ℕ)) → Masks → List ℕ → Type 0
+DistinctAnswers list segments masks out x d =
+    (κs : Lfts 4) × (e : _) × distinct.Learnt κs (list, (segments, (masks, (out, tt)))) x e × (e .1 .1 .1 .0 .now ≡ d)
+
+-- "the caller gives each a 16-bit target and a continuation": the n masks of k words that were told are those by which the row call was given its targets and its
+-- continuations, number for number and so in one order
+pub record MasksAgree (n k : ℕ) (d : List ℕ) (targets conts : List ℕ) (l : RowsLeft) : Type 0 where
+  pub a-target-each : length targets ≡ n
+  pub a-continuation-each : length conts ≡ n
+  pub same : take (n * k) d ≡ take (n * k) (l .distinct)

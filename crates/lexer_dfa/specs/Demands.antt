@@ -23,8 +23,8 @@ use Rattle.state_run.specs.declared.StateScan.the-variants as state
 use Rattle.run_classify.proofs.classify.Reads as classify
 use Rattle.run_scan.proofs.scan.Reads as scan
 use Rattle.run_scan.proofs.scan_length.Reads as scan-length
-use Rattle.state_run.proofs.scan_ascii_run.Reads as scan-ascii-run
-use Rattle.state_run.proofs.scan_ascii_run_length.Reads as scan-ascii-run-length
+use Rattle.state_scan.proofs.scan_ascii_run.Reads as scan-ascii-run
+use Rattle.state_scan_length.proofs.scan_ascii_run_length.Reads as scan-ascii-run-length
 use Rattle.table.specs.Table.{Table, wordsOf, Fields}
 use Rattle.table.specs.Rules.{Rules}
 use Rattle.table.specs.Whole.{Fit}
@@ -36,6 +36,9 @@ use Rattle.codec.proofs.decode.Reads as decode
 use Rattle.encode.specs.declared.Encoded.{Encoded}
 use Rattle.encode.specs.Encode as encoding
 use Rattle.encode.proofs.encode.Reads as encode
+use Rattle.coverage.specs.declared.Covered.{Covered}
+use Rattle.coverage.specs.OnTable.{coverageOn}
+use Rattle.coverage.proofs.coverage.Reads as coverage
 
 -- Demand 2: "Given its room, decoding accepts the lists of up to 8,192 words that meet the layout and the nine index rules, and no others."
 
@@ -80,8 +83,8 @@ pub record RoundTrip (w : List ℕ) (n : ℕ) (x : Decoded) (d : List ℕ) : Typ
   pub again : (words room : RefT (List ℕ)) → words .now ≡ made → length (room .now) ≡ n → (y : Decoded) (left : List ℕ) → DecodeAnswers words room y left →
       (y ≡ x) × (left ≡ d)
 
--- Document 01: "Encoding .. NOT-TABLE exactly when the room isn't what decoding leaves for some accepted words; encoding gives ROOM next, when the output is
--- shorter than needed."
+-- Document 01: "Encoding and coverage give NOT-TABLE exactly when the room isn't what decoding leaves for some accepted words; encoding gives ROOM next, when the
+-- output is shorter than needed."
 
 -- d is what decoding leaves for the accepted words w: lent a room of as many numbers, decode may answer w with a table, by its own contract, and leave d
 pub record Leaves (w d : List ℕ) : Type 0 where
@@ -107,6 +110,17 @@ pub record EncodedBy (d : List ℕ) (n : ℕ) (says : Said) : Type 0 where
   pub accepts : (k : ℕ) → Exactly (says ≡ ok (k ∷ [])) ((w : List ℕ) × Leaves w d × (length w ≤ n) × (k ≡ length w))
   -- no other number is given
   pub no-other : (number p : ℕ) → says ≡ no number p → (number ≡ NOT-TABLE) ⊎ (number ≡ ROOM)
+
+-- coverage may answer x by its own contract
+abbrev pub CoverageAnswers : (room : RefT (List ℕ)) (state : ℕ) → Covered → Type 0
+CoverageAnswers room state x = (κs : Lfts 1) × (e : _) × coverage.Learnt κs (room, (state, tt)) x e
+
+-- what coverage says of a room d and a state
+pub record CoveredBy (d : List ℕ) (state : ℕ) (says : Said) : Type 0 where
+  -- the room is left for no words
+  pub not-table : (p : ℕ) → Exactly (says ≡ no NOT-TABLE p) ((p ≡ 0) × ((w : List ℕ) → Leaves w d → ⊥))
+  -- it is left for some: they are those of a table, and how many points are not dead in its state is answered, or STATE where it has no such state
+  pub counts : (w : List ℕ) → Leaves w d → (t : Table) × (w ≡ wordsOf t) × Fields t × Rules t × (says ≡ coverageOn t state)
 
 -- Demand 2: "Over ASCII-only bytes, a state's run, where it has one, is the longest front part on which it loops."
 

@@ -14,7 +14,7 @@ use Rattle.lexer_dfa.specs.Demands.{From}
 abbrev pub Read : (w : List ℕ) (n : ℕ) → Type 0
 Read w n = (16384 ≤ n) × (length w ≤ 8192)
 
--- "INDEX: an index rule is broken": w is the words of a table whose fields are allowed, and k is the first rule that it breaks
+-- "6 INDEX | an index rule is broken": w is the words of a table whose fields are allowed, and k is the first rule that it breaks
 abbrev pub Breaks : (w : List ℕ) (k : ℕ) → Type 0
 Breaks w k = (t : Table) × Fields t × FirstBroken t k × (w ≡ wordsOf t)
 
@@ -24,15 +24,15 @@ pub record RefusedBy (w : List ℕ) (n : ℕ) (says : Said) : Type 0 where
   pub short : (p : ℕ) → Exactly (says ≡ no SHORT p) (Read w n × ((p ≡ length w) × EndsInside w))
   -- "2 TAG | the first word differs | 0"
   pub tag : (p : ℕ) → Exactly (says ≡ no TAG p) (Read w n × ((p ≡ 0) × Differs w))
-  -- "3 FIELD | a value its field forbids | its word"
+  -- "3 FIELD | a value its field forbids | its word, or record offset; 0 outside lists": a table is a list of words
   pub field : (p : ℕ) → Exactly (says ≡ no FIELD p) (Read w n × Forbids w p)
-  -- "4 LIMIT | over 8,192 words | 8192"
+  -- "4 LIMIT | over 8,192 words; 256 transitions; 1,024 intervals a list | 8192, or record offset": the first of these
   pub limit : (p : ℕ) → Exactly (says ≡ no LIMIT p) ((p ≡ 8192) × (16384 ≤ n) × (8192 < length w))
   -- "5 LEFT | words remain | first unread"
   pub left : (p : ℕ) → Exactly (says ≡ no LEFT p) (Read w n × ((p < length w) × Opens w p))
   -- "6 INDEX | an index rule is broken | rule number"
   pub index : (p : ℕ) → Exactly (says ≡ no INDEX p) (Read w n × Breaks w p)
-  -- "7 ROOM | a lent buffer is shorter than stated | 0"
+  -- "7 ROOM | a lent buffer is shorter than stated, or a pool can't take a new row | 0": the room of a table is lent
   pub room : (p : ℕ) → Exactly (says ≡ no ROOM p) ((p ≡ 0) × (n < 16384))
   -- no other number is given
   pub no-other : (number p : ℕ) → says ≡ no number p → From 1 7 number

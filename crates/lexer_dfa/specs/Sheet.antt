@@ -2,17 +2,19 @@
 use Prim.Native.Nat.{ℕ, _*_}
 use mathlib.Core.Path.{_≡_}
 use mathlib.Core.List.{List, [], _∷_, _++_, map}
-use lib.ListN.{take}
+use lib.ListN.{take, replicate}
 use Rattle.refusal.specs.Said.{Said, ok, no}
+use Rattle.refusal.specs.Fixed.{tag, NONE}
 use Rattle.refusal.specs.Lists.{pick}
 use Rattle.ascii_range.specs.declared.AsciiRange.{AsciiRange}
-use Rattle.ascii_range.specs.Ranges.{inRanges}
+use Rattle.ascii_range.specs.Ranges.{range, inRanges}
 use Rattle.range_class.specs.Class.{upFrom}
 use Rattle.ascii_run.specs.declared.RunWords.{RunWords}
 use Rattle.ascii_run.specs.Shape.{Got, run, refused, gotSaid, shape}
 use Rattle.ascii_run.specs.Classify.{classified}
 use Rattle.ascii_run.specs.Words.{wordsOf}
 use Rattle.ascii_run.specs.Scan.{scanSaid}
+use Rattle.written.specs.Over.{zeros}
 use Rattle.codec.specs.Decode as codec
 use Rattle.transitions.specs.Read as of-list
 use Rattle.transitions.specs.Read.{Parsed, parse}
@@ -110,3 +112,69 @@ Right (x ∷ xs) = Holds x × Right xs
 -- a row of 128 targets: the state on the symbols of some ranges, and dead on all others
 unfoldable pub rowOn : List AsciiRange → ℕ → List ℕ
 rowOn looping state = map (λ symbol. pick (inRanges looping symbol) state 65535) (upFrom 0 128)
+
+-- the sheet's rows, of state 7
+abbrev pub digits : List ℕ
+digits = rowOn (range 48 57 ∷ []) 7
+
+abbrev pub allBut34 : List ℕ
+allBut34 = rowOn (range 0 33 ∷ range 35 127 ∷ []) 7
+
+abbrev pub nowhere : List ℕ
+nowhere = rowOn [] 7
+
+abbrev pub fiveRanges : List ℕ
+fiveRanges = rowOn (range 9 10 ∷ range 32 32 ∷ range 48 57 ∷ range 65 90 ∷ range 97 122 ∷ []) 7
+
+-- the tag and eight 0 words
+abbrev pub eightZeros : List ℕ
+eightZeros = tag ∷ zeros 8
+
+-- `tableread`'s table
+abbrev pub smallTable : List ℕ
+smallTable = tag ∷ 1 ∷ 0 ∷ 1 ∷ 0 ∷ 0 ∷ 65535 ∷ NONE ∷ 1 ∷ 1 ∷ 1 ∷ (zeros 64 ++ (1 ∷ 0 ∷ 0 ∷ 1 ∷ NONE ∷ 0 ∷ 0 ∷ []))
+
+-- the sheet's lists of transitions, as bytes: sets {48..57} and {48, 97..122}; not {-5..3}; the empty not-set; ranges 100..200 and 201..300
+abbrev pub twoSets : List ℕ
+twoSets =
+    (3 ∷ 8 ∷ 0 ∷ 48 ∷ 0 ∷ 0 ∷ 0 ∷ 57 ∷ 0 ∷ 0 ∷ 0 ∷ [])
+    ++ (3 ∷ 16 ∷ 0 ∷ 48 ∷ 0 ∷ 0 ∷ 0 ∷ 48 ∷ 0 ∷ 0 ∷ 0 ∷ 97 ∷ 0 ∷ 0 ∷ 0 ∷ 122 ∷ 0 ∷ 0 ∷ 0 ∷ [])
+
+abbrev pub notSet : List ℕ
+notSet = 4 ∷ 8 ∷ 0 ∷ 251 ∷ 255 ∷ 255 ∷ 255 ∷ 3 ∷ 0 ∷ 0 ∷ 0 ∷ []
+
+abbrev pub emptyNotSet : List ℕ
+emptyNotSet = 4 ∷ 0 ∷ 0 ∷ []
+
+abbrev pub twoRanges : List ℕ
+twoRanges = (2 ∷ 8 ∷ 0 ∷ 100 ∷ 0 ∷ 0 ∷ 0 ∷ 200 ∷ 0 ∷ 0 ∷ 0 ∷ []) ++ (2 ∷ 8 ∷ 0 ∷ 201 ∷ 0 ∷ 0 ∷ 0 ∷ 44 ∷ 1 ∷ 0 ∷ 0 ∷ [])
+
+-- the starred examples, and `tableread`'s
+abbrev pub sheet : List Example
+sheet =
+    -- "Tag and eight 0 words: accepted. First eight only: 1 at 8. A further 0: 5 at 9. Empty: 1 at 0."
+    (decode eightZeros 16384 says ok (0 ∷ 0 ∷ 9 ∷ [])) ∷
+    (decode (take 8 eightZeros) 16384 says no 1 8) ∷
+    (decode (eightZeros ++ (0 ∷ [])) 16384 says no 5 9) ∷
+    (decode [] 16384 says no 1 0) ∷
+    -- "Row looping on 48..57 only: words 261, 14640, 0. "10 ply": 2, exit. "10": 2, no exit."
+    (words digits 7 says ok (261 ∷ 14640 ∷ 0 ∷ [])) ∷
+    (scan digits 7 (49 ∷ 48 ∷ 32 ∷ 112 ∷ 108 ∷ 121 ∷ []) says ok (2 ∷ 1 ∷ [])) ∷
+    (scan digits 7 (49 ∷ 48 ∷ []) says ok (2 ∷ 0 ∷ [])) ∷
+    -- "Loops on all but 34: word 8706; bytes 200, 65, 34: 2, exit."
+    (words allBut34 7 says ok (8706 ∷ [])) ∷
+    (scan allBut34 7 (200 ∷ 65 ∷ 34 ∷ []) says ok (2 ∷ 1 ∷ [])) ∷
+    -- "Looping nowhere: none. Five ranges: none."
+    (classify nowhere 7 says ok (0 ∷ [])) ∷
+    (classify fiveRanges 7 says ok (0 ∷ [])) ∷
+    -- "Sets {48..57} and {48, 97..122}: segments 48..48, 49..57, 58..96, 97..122; masks 3, 1, 0, 2."
+    (segments twoSets says ok (48 ∷ 48 ∷ 49 ∷ 57 ∷ 58 ∷ 96 ∷ 97 ∷ 122 ∷ [])) ∷
+    (masks twoSets says ok (3 ∷ 1 ∷ 0 ∷ 2 ∷ [])) ∷
+    -- "Not {-5..3}: 4..1114111. Empty not-set: all."
+    (segments notSet says ok (4 ∷ 1114111 ∷ [])) ∷
+    (segments emptyNotSet says ok (0 ∷ 1114111 ∷ [])) ∷
+    -- "100..200 and 201..300, both to 3: ascii 100..127, wide 128..300."
+    (rows twoRanges (3 ∷ 3 ∷ []) (NONE ∷ NONE ∷ []) says ok (replicate 100 65535 ++ (replicate 28 3 ++ (128 ∷ 300 ∷ 3 ∷ [])))) ∷
+    -- "Given the tag; 1, 0; 1, 0, 0, 65535, NONE; 1, 1; 1 and 64 zeros; 1, 0; 0; 1, NONE, 0; 0, it prints the line `ok 1 1 82`."
+    (decode smallTable 16384 says ok (1 ∷ 1 ∷ 82 ∷ [])) ∷
+    []

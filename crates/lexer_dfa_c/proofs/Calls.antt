@@ -1,4 +1,4 @@
--- What the C face answers follows from what the calls say. Assumes nothing.
+-- What the C face answers about runs follows from what the calls say. Assumes nothing.
 use Prim.Native.Nat.{ℕ}
 use native.Mathlib.Omega.{arith}
 use mathlib.Core.Path.{_≡_, _∙_, refl}
@@ -7,12 +7,7 @@ use mathlib.Core.List.{List}
 use mir.Val.{boolByte}
 use borrow.Author.Needs.{needs}
 use Rattle.refusal.specs.declared.Refusal.{Refusal}
-use Rattle.refusal.specs.Said.{Said}
 use Rattle.ascii_range.specs.declared.AsciiRanges.{AsciiRanges}
-use Rattle.range_class.specs.declared.AsciiRangeClass.{AsciiRangeClass}
-use Rattle.range_class.specs.declared.RangeClass.{RangeClass}
-use Rattle.range_class.specs.declared.RangeClass.the-variants as answer
-use Rattle.range_class.specs.Class as class
 use Rattle.ascii_run.specs.declared.AsciiRun.{AsciiRun}
 use Rattle.ascii_run.specs.declared.Answered.{Answered}
 use Rattle.ascii_run.specs.declared.Answered.the-variants.{Ran, Refused}
@@ -27,15 +22,7 @@ use Rattle.ascii_run.specs.Scan.{bit, said, scanSaid}
 use Rattle.ascii_run.proofs.Answers.{given}
 use Rattle.lexer_dfa_c.specs.declared.CRun.{CRun}
 use Rattle.lexer_dfa_c.specs.declared.CScan.{CScan}
-use Rattle.lexer_dfa_c.specs.Answers.{classInC, wordsC, refusedRun, answeredInC, runInC, scanInC, refusedScan, scanGot}
-
--- a class's number, or its refusal
-module _ {a : RangeClass} (s : Said) where
-  pub class-number : {c : AsciiRangeClass} {n : ℕ} → class.said a ≡ s → a ≡ answer.Class c → n ≡ class.classNumber c → record { number = 0; place = 0; class = n } ≡ classInC s
-  class-number h e f = rw (← h, e, f)
-
-  pub class-refused : {x : Refusal} → class.said a ≡ s → a ≡ answer.Refused x → record { number = x .number; place = x .place; class = 0 } ≡ classInC s
-  class-refused h e = rw (← h, e)
+use Rattle.lexer_dfa_c.specs.Answers.{wordsC, refusedRun, answeredInC, runInC, scanInC, refusedScan, scanGot}
 
 -- a run's words, or its refusal
 module _ {a : Answered} (q : AsciiRanges) where
@@ -83,4 +70,4 @@ module _ (bs : List ℕ) {q : RunAnswer} where
       let m : x ≡ record { number = n; place = p } = cc in
       rw m
 
-pub ruleset calling = (needs, class-number, class-refused, words-ran, words-refused, run-in-c, scan-none, scan-skipped, scan-run, scan-refused)
+pub ruleset calling = (needs, words-ran, words-refused, run-in-c, scan-none, scan-skipped, scan-run, scan-refused)

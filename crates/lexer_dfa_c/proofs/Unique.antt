@@ -1,18 +1,10 @@
--- Each call of the C face about ranges and runs determines its answer, since its contract is an equation for it. Assumes nothing.
+-- Each call of the C face about runs determines its answer, since its contract is an equation for it. Assumes nothing.
 use mathlib.Core.Path.{sym, _∙_}
-use Rattle.lexer_dfa_c.proofs.lexer_dfa_class_of_byte.Reads as class-of-byte
-use Rattle.lexer_dfa_c.proofs.lexer_dfa_class.Reads as class
 use Rattle.lexer_dfa_c.proofs.lexer_dfa_classify.Reads as classify
 use Rattle.lexer_dfa_c.proofs.lexer_dfa_read_run.Reads as read-run
 use Rattle.lexer_dfa_c.proofs.lexer_dfa_ascii_run.Reads as ascii-run
 use Rattle.lexer_dfa_c.proofs.lexer_dfa_scan.Reads as scan
 use Rattle.unique.specs.Unique.{Determines}
-
-pub c-class-of-byte-unique : Determines class-of-byte.Learnt
-c-class-of-byte-unique κs a x y e f p q = p ∙ sym q
-
-pub c-class-unique : Determines class.Learnt
-c-class-unique κs a x y e f p q = p ∙ sym q
 
 pub c-classify-unique : Determines classify.Learnt
 c-classify-unique κs a x y e f p q = p ∙ sym q

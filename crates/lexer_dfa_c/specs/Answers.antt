@@ -1,4 +1,4 @@
--- The answers in C: a number of 0 and the values, or the refusal's number and place. Assumes nothing.
+-- The answers about runs in C: a number of 0 and the values, or the refusal's number and place. Assumes nothing.
 use Prim.Native.Nat.{ℕ}
 use mathlib.Core.List.{List, [], _∷_}
 use lib.ListN.{getD}
@@ -10,14 +10,8 @@ use Rattle.ascii_run.specs.declared.RunWords.{RunWords}
 use Rattle.ascii_run.specs.Shape.{shape, Got, run, refused}
 use Rattle.ascii_run.specs.Words.{wordsOf, readAlone}
 use Rattle.ascii_run.specs.Scan.{scanSaid}
-use Rattle.lexer_dfa_c.specs.declared.CClass.{CClass}
 use Rattle.lexer_dfa_c.specs.declared.CRun.{CRun}
 use Rattle.lexer_dfa_c.specs.declared.CScan.{CScan}
-
--- a class by its number
-abbrev pub classInC : Said → CClass
-classInC (ok l) = record { number = 0; place = 0; class = getD l 0 0 }
-classInC (no n p) = record { number = n; place = p; class = 0 }
 
 abbrev pub wordsC : RunWords → CRun
 wordsC w = record { number = 0; place = 0; length = w .length; first = w .first; second = w .second; third = w .third }

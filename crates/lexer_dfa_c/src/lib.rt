@@ -1,27 +1,15 @@
-// The calls of ranges and runs for C and Rust: slices pass as pointer and length, answers come back as structs.
+// The calls of runs for C and Rust: slices pass as pointer and length, answers come back as structs.
 // A number of 0 says accepted; else it is document 01's refusal, with its place, and every other field is 0.
 ghost use mathlib.Core.Path.{_≡_};
 ghost use Rattle.ascii_run.specs.Scan.{said};
-ghost use Rattle.range_class.specs.Class.{byteClass, byteNumber, classNumber, classSaid};
 ghost use Rattle.ascii_run.specs.Classify.{classified};
 ghost use Rattle.ascii_run.specs.Words.{readAt};
 ghost use Rattle.state_run.specs.StateRun as scanning;
-ghost use Rattle.lexer_dfa_c.specs.Answers.{answeredInC, classInC, runInC, scanCall, scanInC};
+ghost use Rattle.lexer_dfa_c.specs.Answers.{answeredInC, runInC, scanCall, scanInC};
 use ascii_run::Answered;
 use ascii_run::Run;
 use ascii_run::RunAnswer;
 use ascii_run::Scanned;
-use range_class::AsciiRangeClass;
-use range_class::ByteClass;
-use range_class::RangeClass;
-
-// The class of ranges: 0 whitespace, 1 number, 2 identifier, 3 other.
-#[repr(C)]
-pub struct CClass {
-    pub number: u32,
-    pub place: usize,
-    pub class: u32,
-}
 
 // A run's words: one, or three.
 #[repr(C)]
@@ -43,60 +31,6 @@ pub struct CScan {
     pub ran: u32,
     pub bytes: usize,
     pub found_exit: u32,
-}
-
-fn byte_number(class: ByteClass) -> u32
-    ensures { λ r. ⌜ r ≡ byteNumber class ⌝ }
-{
-    match class {
-        ByteClass::Digit => 0,
-        ByteClass::HexLetter => 1,
-        ByteClass::Letter => 2,
-        ByteClass::Whitespace => 3,
-        ByteClass::Underscore => 4,
-        ByteClass::Quote => 5,
-        ByteClass::Dollar => 6,
-        ByteClass::Other => 7,
-    }
-}
-
-// The class of a byte: 0 digit, 1 hex letter, 2 other letter, 3 whitespace, 4 underscore, 5 quote, 6 dollar, 7 other.
-#[no_mangle]
-pub extern "C" fn lexer_dfa_class_of_byte(byte: u8) -> u32
-    ensures { λ r. ⌜ r ≡ byteNumber (byteClass byte) ⌝ }
-{
-    byte_number(range_class::class_of_byte(byte))
-}
-
-fn class_number(class: AsciiRangeClass) -> u32
-    ensures { λ r. ⌜ r ≡ classNumber class ⌝ }
-{
-    match class {
-        AsciiRangeClass::Whitespace => 0,
-        AsciiRangeClass::Number => 1,
-        AsciiRangeClass::Identifier => 2,
-        AsciiRangeClass::Other => 3,
-    }
-}
-
-// The class of the ranges that the three words of a kind-5 run hold.
-#[no_mangle]
-pub extern "C" fn lexer_dfa_class(words: &[u32]) -> CClass
-    ensures { λ r. ⌜ r ≡ classInC (classSaid (now (words .entry))) ⌝ }
-{
-    let answer = range_class::class(words);
-    match answer {
-        RangeClass::Class(class) => CClass {
-            number: 0,
-            place: 0,
-            class: class_number(class),
-        },
-        RangeClass::Refused(refusal) => CClass {
-            number: refusal.number,
-            place: refusal.place,
-            class: 0,
-        },
-    }
 }
 
 fn words_in_c(read: RunAnswer) -> CRun

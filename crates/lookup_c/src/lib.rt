@@ -71,7 +71,7 @@ pub extern "C" fn lexer_dfa_ascii_target(room: &[u32], state: u16, symbol: u8) -
 pub extern "C" fn lexer_dfa_char_target(room: &[u32], state: u16, symbol: u32) -> CValue
     ensures { λ r. ⌜ r ≡ valueInC (targeting.charTarget (now (room .entry)) state symbol) ⌝ }
 {
-    target_in_c(targets::char_target(room, state, symbol))
+    target_in_c(char_targets::char_target(room, state, symbol))
 }
 
 // Where a state goes at the end of the input.
@@ -79,7 +79,7 @@ pub extern "C" fn lexer_dfa_char_target(room: &[u32], state: u16, symbol: u32) -
 pub extern "C" fn lexer_dfa_eof_target(room: &[u32], state: u16) -> CValue
     ensures { λ r. ⌜ r ≡ valueInC (targeting.eofTarget (now (room .entry)) state) ⌝ }
 {
-    target_in_c(targets::eof_target(room, state))
+    target_in_c(char_targets::eof_target(room, state))
 }
 
 fn continued_in_c(continuation: Continuation) -> CValue

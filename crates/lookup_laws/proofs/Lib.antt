@@ -2,6 +2,7 @@ pub mod Stands
 pub mod Renewed
 pub mod Held
 pub mod Looked
+pub mod RowsLooked
 pub mod ModesLooked
 pub mod RunLooked
 pub mod RecordsLooked

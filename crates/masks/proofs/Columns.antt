@@ -1,8 +1,8 @@
 -- The laws of filling the masks record by record, one word for each segment. t is a record's transition, ns the numbers of the segments, w the
 -- list's bytes. Assumes nothing.
 use mathlib.Core.Path.{_≡_, refl, sym, ap, ap₂, subst, _∙_}
-use mathlib.Core.List.{List, [], _∷_, _++_}
-use mathlib.Core.Bool.{Bool, true}
+use mathlib.Core.List.{List, [], _∷_}
+use mathlib.Core.Bool.{true}
 use Prim.Native.Nat.{ℕ, zero, suc, _+_, _*_, _-_, _^_, _<_, _≤_}
 use native.Mathlib.Nat.{le-trans}
 use native.Mathlib.Omega.{arith}
@@ -15,13 +15,13 @@ use mir.Syntax.{w64}
 use Rattle.written.specs.Over.{over, lay, Put, zeros}
 use Rattle.written.proofs.Overs.{lay-length}
 use Rattle.written.proofs.Going.{Going, going-start, going-done, going-put}
-use Rattle.transitions.specs.Transition.{Transition, holds, holdAt, inOrder}
+use Rattle.transitions.specs.Transition.{Transition, origin, holds, holdAt, inOrder}
 use Rattle.transitions.specs.Bytes.{sizeAt, shapeOf, transOf}
 use Rattle.transitions.specs.Walk.{transAt, nextAt, transFrom}
 use Rattle.masks.specs.Masks.{bit, wordOf, pack, wordsFor, maskOf, masksAt, flat}
-use Rattle.masks.specs.Walk.{Fit, nextOf, lows, wordsAt, column, Columned}
+use Rattle.masks.specs.Walk.{Fit, nextOf, byLow, Covers, lows, wordsAt, column, Columned}
 use Rattle.masks.proofs.Packs.{wordOf-lt}
-use Rattle.masks.proofs.Holds.{order-rises}
+use Rattle.masks.proofs.Holds.{tells-none, held-is}
 use Rattle.masks.proofs.Words.{first}
 use Rattle.masks.proofs.Puts.{fit-front, fit-rest, length-trans}
 
@@ -71,11 +71,11 @@ module _ (t : Transition) (ns : List ℕ) (count : ℕ) (old : List ℕ) (left a
         let d : drop k out ≡ getD out k 0 ∷ drop (k + 1) out = drop-cons out k 0 fill-here ∙ ap (λ (j : ℕ). getD out k 0 ∷ drop j out) one in
         ap₂ (λ (j : ℕ) (l : List ℕ). column t (lows ns j at) l) e d
 
-    pub fill-next : {b : ℕ} {h : Bool} → b ≡ bit h → h ≡ holds t (getD ns at 0) →
+    pub fill-next : {tag q floor low high b : ℕ} → q ≡ getD ns at 0 + origin → Covers t tag q floor low high → b ≡ bit (byLow tag low q) →
         Filling t ns count old (left - 1) (at + 2) (k + 1) (set out k (b + 2 * getD out k 0))
-    fill-next {b} e g =
+    fill-next {tag} {b = b} i c e =
         let x : ℕ = b + 2 * getD out k 0 in
-        let same : bit (holds t (getD ns at 0)) + 2 * getD out k 0 ≡ x = ap (λ (j : ℕ). j + 2 * getD out k 0) (sym (e ∙ ap bit g)) in
+        let same : bit (holds t (getD ns at 0)) + 2 * getD out k 0 ≡ x = ap (λ (j : ℕ). j + 2 * getD out k 0) (sym (held-is t tag (getD ns at 0) i c e)) in
         record {
           room = omega (arith, f .room, length-set out k x);
           small = λ i l m. rw (getD-set-other out k i x 0 (λ q. omega arith)) (f .small i (omega arith) m);
@@ -89,7 +89,7 @@ module _ (t : Transition) (ns : List ℕ) (count : ℕ) (old : List ℕ) (left a
   unfolding column lows
   fill-end z = let e : left ≡ 0 = omega arith in going-done all-of 0 old (rw e at (f .going)) .is
 
-pub ruleset columns = (needs, order-rises, fill-begin, fill-here, fill-double, fill-sum, fill-next, fill-end)
+pub ruleset columns = (needs, tells-none, fill-begin, fill-here, fill-double, fill-sum, fill-next, fill-end)
 
 -- One record
 

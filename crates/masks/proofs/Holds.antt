@@ -2,19 +2,20 @@
 use mathlib.Core.Path.{_≡_, refl, sym, ap, _∙_}
 use mathlib.Core.Logic.{⊎-elim}
 use mathlib.Core.List.{List}
-use mathlib.Core.Bool.{Bool, true, false, not, and-false}
+use mathlib.Core.Bool.{Bool, true, false, not, and-false, or-false, false≢true}
 use Prim.Native.Nat.{ℕ, zero, suc, _+_, _*_, _-_, _/_, _<_, _≤_}
 use native.Mathlib.Omega.{arith}
 use borrow.Author.Needs.{needs}
-use borrow.Author.Tests.{le-leb, lt-leb, le-ltb, lt-ltb, eqb-true}
-use lib.Dec.{eqb}
+use borrow.Author.Tests.{le-leb, lt-leb, le-ltb, lt-ltb, eqb-true, eqb-false, eq-eqb, ne-eqb}
+use lib.Dec.{eqb, leb, ltb}
 use Rattle.refusal.specs.Lists.{pick}
-use Rattle.transitions.specs.Transition.{pairHas, anyHas, holds, origin, orderly, inOrder}
+use Rattle.transitions.specs.Transition.{Transition, atom, pairHas, anyHas, holds, origin, orderly, inOrder}
 use Rattle.transitions.specs.Bytes.{numberAt, pairsAt, shapeOf, transOf}
 use Rattle.transitions.proofs.Order.{le-cases, both}
 use Rattle.transitions.proofs.Pairs.{pairs-turn, pairs-done}
-use Rattle.transitions.proofs.Tags.{value-1, value-2, value-high, trans-1, trans-2, trans-3, trans-4, trans-5}
-use Rattle.masks.specs.Walk.{lowAt, highAt, Rises, Passed, Reach}
+use Rattle.transitions.proofs.Tags.{shape-2, value-1, trans-1, trans-2, trans-3, trans-4, trans-5}
+use Rattle.masks.specs.Masks.{bit}
+use Rattle.masks.specs.Walk.{lowAt, highAt, Rises, Passed, Reach, Floor, last, Spans, byLow, Tells, Covers}
 
 -- The pairs of a set in order: one step, and any two
 
@@ -73,7 +74,7 @@ module _ (w : List ℕ) where
       )
 
   rising : (n p : ℕ) → orderly 0 (pairsAt w n p) ≡ true → Rises w n p
-  rising n p o = record { each = λ i k l h. omega (arith, apart n 0 p o i k l h, proper n 0 p o k h) }
+  rising n p o = record { apart = apart n 0 p o; each = λ i k l h. omega (arith, apart n 0 p o i k l h, proper n 0 p o k h) }
 
   -- Those that end before the key do not hold it, nor do those that start behind it
 
@@ -128,85 +129,206 @@ module _ (w : List ℕ) (n p q : ℕ) where
 
 pub ruleset seeks = (needs, seek-none, seek-hint, seek-hit, seek-end, seek-turn)
 
-module _ (w : List ℕ) (n p q j : ℕ) (s : Reach w n p q j) where
-  skipped : anyHas (pairsAt w n p) q ≡ anyHas (pairsAt w (n - j) (p + 8 * j)) q
-  skipped = any-skip w q j n p (s .passed .within) (s .passed .before)
+-- A key that j pairs end before, and that the next reaches
 
-  pub meets-hit : {x : ℕ} → j < n → x ≡ numberAt w (p + 8 * j) → x ≤ q → true ≡ anyHas (pairsAt w n p) q
+module _ (w : List ℕ) (n p j k : ℕ) (l : j ≤ n) (h : (i : ℕ) → i < j → highAt w p i < k) where
+  skipped : anyHas (pairsAt w n p) k ≡ anyHas (pairsAt w (n - j) (p + 8 * j)) k
+  skipped = any-skip w k j n p l h
+
+  any-past : n ≤ j → anyHas (pairsAt w n p) k ≡ false
   unfolding anyHas
-  meets-hit {x} l e h =
-      let low : numberAt w (p + 8 * j) ≤ q = omega arith in
-      sym (skipped ∙ rw (pairs-turn w (n - j) (p + 8 * j) (omega arith), le-leb (numberAt w (p + 8 * j)) q low, le-leb q (numberAt w (p + 8 * j + 4)) (s .after l)))
+  any-past e = skipped ∙ rw (pairs-done w (n - j) (p + 8 * j) (omega arith))
 
-  pub meets-miss : {x : ℕ} → orderly 0 (pairsAt w n p) ≡ true → j < n → x ≡ numberAt w (p + 8 * j) → q < x → false ≡ anyHas (pairsAt w n p) q
-  meets-miss {x} o l e h = sym (skipped ∙ any-none w q (n - j) (p + 8 * j) above)
+  any-at : Rises w n p → j < n → k ≤ highAt w p j → anyHas (pairsAt w n p) k ≡ leb (lowAt w p j) k
+  unfolding anyHas
+  any-at o g t =
+      le-cases (lowAt w p j) k
+      (λ d. skipped ∙ rw (pairs-turn w (n - j) (p + 8 * j) (omega arith), le-leb (lowAt w p j) k d, le-leb k (highAt w p j) t))
+      (λ d. skipped ∙ any-none w k (n - j) (p + 8 * j) (above d) ∙ sym (lt-leb (lowAt w p j) k d))
     where
-      above : (k : ℕ) → k < n - j → q < lowAt w (p + 8 * j) k
-      above k g =
-          let z : p + 8 * j + 8 * k ≡ p + 8 * (j + k) = omega arith in
-          let d : lowAt w (p + 8 * j) k ≡ lowAt w p (j + k) = ap (numberAt w) z in
-          le-cases k 0
-          (λ f. let y : j + k ≡ j = omega arith in let c : lowAt w p (j + k) ≡ lowAt w p j = ap (lowAt w p) y in omega arith)
-          (λ f. omega (arith, proper w n 0 p o j l, apart w n 0 p o j (j + k) (omega arith) (omega arith)))
+      above : k < lowAt w p j → (i : ℕ) → i < n - j → k < lowAt w (p + 8 * j) i
+      above d i m =
+          let z : p + 8 * j + 8 * i ≡ p + 8 * (j + i) = omega arith in
+          let e : lowAt w (p + 8 * j) i ≡ lowAt w p (j + i) = ap (numberAt w) z in
+          le-cases i 0
+          (λ f. let y : j + i ≡ j = omega arith in let c : lowAt w p (j + i) ≡ lowAt w p j = ap (lowAt w p) y in omega arith)
+          (λ f. omega (arith, o .apart j (j + i) (omega arith) (omega arith)))
 
-  pub meets-end : n ≤ j → false ≡ anyHas (pairsAt w n p) q
-  unfolding anyHas
-  meets-end h = sym (skipped ∙ rw (pairs-done w (n - j) (p + 8 * j) (omega arith)))
+-- The span about a key
 
-pub ruleset meeting = (needs, meets-hit, meets-miss, meets-end)
+pub floor-none : (w : List ℕ) (p j : ℕ) → j ≡ 0 → Floor w p j 0
+floor-none w p j z = record { none = λ _. refl; some = λ h. absurd (omega arith) }
 
-pub ruleset tests = (needs, le-leb, lt-leb)
+pub floor-some : (w : List ℕ) (p j : ℕ) {x : ℕ} → (j ≡ 0 → ⊥) → x ≡ numberAt w (p + 8 * (j - 1) + 4) → Floor w p j (x + 1)
+floor-some w p j z e = record { none = λ h. absurd (z h); some = λ _. ap (λ (y : ℕ). y + 1) e }
+
+pub ruleset floors = (needs, floor-none, floor-some)
+
+module _ (w : List ℕ) (n p q j : ℕ) (o : Rises w n p) (s : Reach w n p q j) {f : ℕ} (a : Floor w p j f) where
+  before : (k : ℕ) → f ≤ k → (i : ℕ) → i < j → highAt w p i < k
+  before k l i h =
+      let e : f ≡ highAt w p (j - 1) + 1 = a .some (omega arith) in
+      le-cases (j - 1) i
+      (λ g. let t : i ≡ j - 1 = omega arith in rw t (omega arith))
+      (λ g. omega (arith, o .each i (j - 1) g (omega (arith, s .passed .within))))
+
+  below : f ≤ q
+  below =
+      le-cases j 0
+      (λ z. omega (arith, a .none (omega arith)))
+      (λ z. omega (arith, a .some z, s .passed .before (j - 1) (omega arith)))
+
+  pub span-in : {x y : ℕ} → j < n → x ≡ numberAt w (p + 8 * j) → y ≡ numberAt w (p + 8 * j + 4) → Spans w n p q f x y
+  span-in l d e =
+      record {
+        from = below;
+        to = omega (arith, e, s .after l);
+        each = λ k g h. rw d (any-at w n p j k (s .passed .within) (before k g) o l (omega (arith, e)));
+      }
+
+  pub span-past : n ≤ j → q ≤ last → Spans w n p q f (last + 1) last
+  span-past l h =
+      record {
+        from = below;
+        to = h;
+        each = λ k g m. any-past w n p j k (s .passed .within) (before k g) l ∙ sym (lt-leb (last + 1) k (omega arith));
+      }
+
+pub ruleset spans = (needs, span-in, span-past)
+
+-- An atom
+
+module _ (x q : ℕ) where
+  pub atom-in : q ≤ x → Covers (atom x) 1 q 0 x x
+  unfolding holds byLow
+  atom-in h =
+      record {
+        tells = record {
+          each = λ point a b.
+              le-cases x (point + origin)
+              (λ c. eq-eqb x (point + origin) (omega arith) ∙ sym (le-leb x (point + origin) c))
+              (λ c. ne-eqb x (point + origin) (λ e. omega arith) ∙ sym (lt-leb x (point + origin) c));
+        };
+        from = omega arith;
+        to = h;
+      }
+
+  pub atom-past : x < q → q ≤ last → Covers (atom x) 1 q (x + 1) (last + 1) last
+  unfolding holds byLow
+  atom-past h l =
+      record {
+        tells = record { each = λ point a b. ne-eqb x (point + origin) (λ e. omega arith) ∙ sym (lt-leb (last + 1) (point + origin) (omega arith)) };
+        from = omega arith;
+        to = l;
+      }
+
+pub ruleset atoms = (needs, atom-in, atom-past)
 
 -- A record by its tag
 
-module _ (w : List ℕ) (tag size p point : ℕ) where
-  pub holds-1 : {k : ℕ} {r : Bool} → tag ≡ 1 → k ≡ numberAt w p → r ≡ eqb k (point + origin) → r ≡ holds (transOf w tag size p) point
-  unfolding holds
-  holds-1 h a e = rw (trans-1 w tag size p h, ← a) e
+tag-cases : {C : Type 0} (a b : ℕ) → (a ≡ b → C) → ((a ≡ b → ⊥) → C) → C
+tag-cases a b f g = ⊎-elim (λ (e : eqb a b ≡ true). f (eqb-true a b e)) (λ (e : eqb a b ≡ false). g (eqb-false a b e)) (both (eqb a b))
 
-  pub holds-2 : {low high : ℕ} {r : Bool} → tag ≡ 2 → low ≡ numberAt w p → high ≡ numberAt w (p + 4) → r ≡ pairHas low high (point + origin) →
-      r ≡ holds (transOf w tag size p) point
-  unfolding holds
-  holds-2 h a b e = rw (trans-2 w tag size p h, ← a, ← b) e
+-- whatever is no atom, range, set or not-set is a wildcard
+wildcard-shape : (tag size : ℕ) → (tag ≡ 1 → ⊥) → (tag ≡ 2 → ⊥) → (tag ≡ 3 → ⊥) → (tag ≡ 4 → ⊥) → shapeOf tag size ≡ true → (tag ≡ 5) × (size ≡ 0)
+unfolding shapeOf
+wildcard-shape tag size a b c d s = go (eqb tag 5) refl (rw (ne-eqb tag 1 a, ne-eqb tag 2 b, ne-eqb tag 3 c, ne-eqb tag 4 d) at s)
+  where
+    go : (t : Bool) → eqb tag 5 ≡ t → pick t (eqb size 0) false ≡ true → (tag ≡ 5) × (size ≡ 0)
+    go true e h = (eqb-true tag 5 e, eqb-true size 0 h)
+    go false e h = absurd (false≢true h)
 
-  pub order-of-3 : tag ≡ 3 → inOrder (transOf w tag size p) ≡ true → orderly 0 (pairsAt w (size / 8) p) ≡ true
+module _ (w : List ℕ) (tag size p : ℕ) where
+  order-of-3 : tag ≡ 3 → inOrder (transOf w tag size p) ≡ true → orderly 0 (pairsAt w (size / 8) p) ≡ true
   unfolding inOrder
   order-of-3 h o = rw (trans-3 w tag size p h) at o
 
-  pub order-of-4 : tag ≡ 4 → inOrder (transOf w tag size p) ≡ true → orderly 0 (pairsAt w (size / 8) p) ≡ true
+  order-of-4 : tag ≡ 4 → inOrder (transOf w tag size p) ≡ true → orderly 0 (pairsAt w (size / 8) p) ≡ true
   unfolding inOrder
   order-of-4 h o = rw (trans-4 w tag size p h) at o
 
+  one-pair : size ≤ 8 → Rises w (size / 8) p
+  one-pair l = record { apart = λ i k x y. absurd (omega arith); each = λ i k x y. absurd (omega arith) }
+
   -- no other record has two pairs
-  pub order-rises : shapeOf tag size ≡ true → inOrder (transOf w tag size p) ≡ true → Rises w (size / 8) p
-  unfolding shapeOf
-  order-rises s o =
-      ⊎-elim
-      (λ (a : eqb tag 3 ≡ true). rising w (size / 8) p (order-of-3 (eqb-true tag 3 a) o))
-      (λ (a : eqb tag 3 ≡ false).
-      ⊎-elim
-      (λ (b : eqb tag 4 ≡ true). rising w (size / 8) p (order-of-4 (eqb-true tag 4 b) o))
-      (λ (b : eqb tag 4 ≡ false).
-      let l : size ≤ 8 = go (eqb tag 1) (eqb tag 2) (eqb tag 5) (rw (a, b) at s) in record { each = λ i k x y. absurd (omega arith) })
-      (both (eqb tag 4)))
-      (both (eqb tag 3))
-    where
-      go : (a b c : Bool) → pick a (eqb size 4) (pick b (eqb size 8) (pick c (eqb size 0) false)) ≡ true → size ≤ 8
-      go true b c e = omega (arith, eqb-true size 4 e)
-      go false true c e = omega (arith, eqb-true size 8 e)
-      go false false true e = omega (arith, eqb-true size 0 e)
-      go false false false e = let z : _≡_ {A = ℕ} 0 1 = cc in absurd (omega arith)
+  pub order-rises : (tag ≡ 1 → ⊥) → shapeOf tag size ≡ true → inOrder (transOf w tag size p) ≡ true → Rises w (size / 8) p
+  order-rises a s o =
+      tag-cases tag 2
+      (λ h. one-pair (omega (arith, shape-2 tag size s h)))
+      (λ b.
+      tag-cases tag 3
+      (λ h. rising w (size / 8) p (order-of-3 h o))
+      (λ c. tag-cases tag 4 (λ h. rising w (size / 8) p (order-of-4 h o)) (λ d. one-pair (omega (arith, wildcard-shape tag size a b c d s .1)))))
 
-  pub holds-3 : {r : Bool} → tag ≡ 3 → r ≡ anyHas (pairsAt w (size / 8) p) (point + origin) → r ≡ holds (transOf w tag size p) point
-  unfolding holds
-  holds-3 h e = rw (trans-3 w tag size p h) e
+  module _ (point : ℕ) where
+    -- any record but an atom holds what its pairs do, or what they do not
+    by-pairs : (tag ≡ 1 → ⊥) → shapeOf tag size ≡ true →
+        holds (transOf w tag size p) point ≡ pick (leb 4 tag) (not (anyHas (pairsAt w (size / 8) p) (point + origin))) (anyHas (pairsAt w (size / 8) p) (point + origin))
+    unfolding holds anyHas pairsAt
+    by-pairs a s =
+        tag-cases tag 2
+        (λ h.
+        let one : size / 8 ≡ 1 = omega (arith, shape-2 tag size s h) in
+        rw (trans-2 w tag size p h, one, h) (sym (or-false (pairHas (numberAt w p) (numberAt w (p + 4)) (point + origin)))))
+        (λ b.
+        tag-cases tag 3
+        (λ h. rw (trans-3 w tag size p h, h))
+        (λ c.
+        tag-cases tag 4
+        (λ h. rw (trans-4 w tag size p h, h))
+        (λ d.
+        let l = wildcard-shape tag size a b c d s in
+        let none : size / 8 ≡ 0 = omega (arith, l .1) in
+        rw (trans-5 w tag size p a b c d, none, l .0))))
 
-  pub holds-4 : {b r : Bool} → tag ≡ 4 → b ≡ anyHas (pairsAt w (size / 8) p) (point + origin) → r ≡ not b → r ≡ holds (transOf w tag size p) point
-  unfolding holds
-  holds-4 h a e = rw (trans-4 w tag size p h, ← a) e
+  not-leb : (low k : ℕ) → not (leb low k) ≡ ltb k low
+  not-leb low k = le-cases low k (λ h. rw (le-leb low k h, le-ltb k low h)) (λ h. rw (lt-leb low k h, lt-ltb k low h))
 
-  pub holds-5 : (tag ≡ 1 → ⊥) → (tag ≡ 2 → ⊥) → (tag ≡ 3 → ⊥) → (tag ≡ 4 → ⊥) → true ≡ holds (transOf w tag size p) point
-  unfolding holds
-  holds-5 a b c d = rw (trans-5 w tag size p a b c d)
+  module _ {q floor low high : ℕ} where
+    pub find-atom : {x : ℕ} → tag ≡ 1 → x ≡ numberAt w p → Covers (atom x) 1 q floor low high → Covers (transOf w tag size p) tag q floor low high
+    find-atom h e g = rw (trans-1 w tag size p h, h, ← e) g
 
-pub ruleset holding = (needs, value-1, value-2, value-high, order-of-3, order-of-4, order-rises, holds-1, holds-2, holds-3, holds-4, holds-5)
+    pub find-pairs : (tag ≡ 1 → ⊥) → shapeOf tag size ≡ true → Spans w (size / 8) p q floor low high → Covers (transOf w tag size p) tag q floor low high
+    unfolding byLow
+    find-pairs a s g =
+        record {
+          tells = record {
+            each = λ point l h.
+                by-pairs point a s
+                ∙ ap (λ (t : Bool). pick (leb 4 tag) (not t) t) (g .each (point + origin) l h)
+                ∙ ap (λ (t : Bool). pick (leb 4 tag) t (leb low (point + origin))) (not-leb low (point + origin));
+          };
+          from = g .from;
+          to = g .to;
+        }
+
+pub value-pairs : (p size : ℕ) {m : ℕ} → p + size ≤ m → p + 8 * (size / 8) ≤ m
+value-pairs p size l = omega arith
+
+pub ruleset finding = (needs, value-1, value-pairs, order-rises, find-atom, find-pairs)
+
+module _ (t : Transition) (tag : ℕ) where
+  pub tells-none : Tells t tag 1 0 0
+  tells-none = record { each = λ point a b. absurd (omega arith) }
+
+  module _ {q floor low high : ℕ} where
+    pub still-covers : Tells t tag floor low high → floor ≤ q → q ≤ high → Covers t tag q floor low high
+    still-covers s a b = record { tells = s; from = a; to = b }
+
+    pub held-is : (point : ℕ) {b : ℕ} → q ≡ point + origin → Covers t tag q floor low high → b ≡ bit (byLow tag low q) → b ≡ bit (holds t point)
+    held-is point e c g = g ∙ ap bit (ap (byLow tag low) e ∙ sym (c .tells .each point (omega (arith, c .from)) (omega (arith, c .to))))
+
+pub ruleset telling = (needs, still-covers, held-is)
+
+-- The test by the tag
+
+module _ (tag low q : ℕ) where
+  pub by-other : {r : ℕ} → 4 ≤ tag → r ≡ bit (ltb q low) → r ≡ bit (byLow tag low q)
+  unfolding byLow
+  by-other h e = rw (le-leb 4 tag h) e
+
+  pub by-same : {r : ℕ} → tag < 4 → r ≡ bit (leb low q) → r ≡ bit (byLow tag low q)
+  unfolding byLow
+  by-same h e = rw (lt-leb 4 tag h) e
+
+pub ruleset tests = (needs, by-other, by-same)

@@ -3,8 +3,6 @@ pub mod Holds
 pub mod Words
 pub mod Puts
 pub mod Columns
-pub mod Parts
 pub mod Keeps
-pub mod Distincts
 pub mod Answers
 pub mod Examples

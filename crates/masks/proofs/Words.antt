@@ -2,7 +2,7 @@
 -- on. Assumes nothing.
 use mathlib.Core.Path.{_≡_, refl, sym, ap}
 use mathlib.Core.List.{List}
-use mathlib.Core.Bool.{Bool, true}
+use mathlib.Core.Bool.{true}
 use Prim.Native.Nat.{ℕ, zero, suc, _+_, _*_, _-_, _^_, _<_, _≤_}
 use native.Mathlib.Nat.{le-trans}
 use native.Mathlib.Omega.{arith}
@@ -75,7 +75,7 @@ module _ (w : List ℕ) (n at : ℕ) (s : Fit w n at) (z : n ≡ 0 → ⊥) wher
     pub word-rest : Fit w (n - 1) (at + 3 + k)
     word-rest = rw e (first w n at z s .rest)
 
-    module _ (point : ℕ) {b more : ℕ} {h : Bool} (f : n ≤ 64) (i : h ≡ holds (transOf w (getD w at 0) k (at + 3)) point) (j : b ≡ bit h)
+    module _ (point : ℕ) {b more : ℕ} (f : n ≤ 64) (j : b ≡ bit (holds (transOf w (getD w at 0) k (at + 3)) point))
         (g : more ≡ wordOf (holdAt (transFrom w (n - 1) (at + 3 + k)) point)) where
       small : more < 2 ^ 63
       small = rw g (word-lt w (n - 1) (at + 3 + k) point (omega arith))
@@ -87,7 +87,7 @@ module _ (w : List ℕ) (n at : ℕ) (s : Fit w n at) (z : n ≡ 0 → ⊥) wher
       word-sum l = omega (arith, small)
 
       pub word-is : b + 2 * more ≡ wordOf (holdAt (transFrom w n at) point)
-      word-is = rw (j, i, g, e) (sym (word-turn w n at point z))
+      word-is = rw (j, g, e) (sym (word-turn w n at point z))
 
 pub ruleset words = (needs, word-none, word-size, word-here, word-value, word-shape, word-order, word-rest, word-double, word-sum, word-is)
 

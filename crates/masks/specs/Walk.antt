@@ -1,15 +1,16 @@
--- How the code walks: over records, over their pairs, over segments, and over masks that stand one behind another. w is the list's bytes, ns
--- the numbers of a buffer, k how many are left. Assumes nothing.
-use Prim.Native.Nat.{ℕ, zero, suc, _+_, _*_, _^_, _≤_, _<_}
+-- How the code walks: over records, over their pairs, and over segments. w is the list's bytes, ns the numbers of a buffer, k how many are
+-- left. Assumes nothing.
+use Prim.Native.Nat.{ℕ, zero, suc, _+_, _*_, _-_, _^_, _≤_, _<_}
 use mathlib.Core.Path.{_≡_}
-use mathlib.Core.Bool.{true}
+use mathlib.Core.Bool.{Bool, true}
 use mathlib.Core.List.{List, [], _∷_}
-use lib.ListN.{length, getD, take, drop}
-use Rattle.written.specs.Over.{lay}
-use Rattle.transitions.specs.Transition.{Transition, holds, holdAt, inOrder}
-use Rattle.transitions.specs.Bytes.{sizeAt, numberAt, shapeOf}
+use lib.ListN.{length, getD}
+use lib.Dec.{leb, ltb}
+use Rattle.refusal.specs.Lists.{pick}
+use Rattle.transitions.specs.Transition.{Transition, origin, anyHas, holds, holdAt, inOrder}
+use Rattle.transitions.specs.Bytes.{sizeAt, numberAt, pairsAt, shapeOf}
 use Rattle.transitions.specs.Walk.{transAt, nextAt}
-use Rattle.masks.specs.Masks.{bit, wordOf, flat, addNew, distinct, placeOf, placesIn}
+use Rattle.masks.specs.Masks.{bit, wordOf}
 
 -- k records stand from `at` on, whole, each of its tag's length and in order
 unfoldable pub Fit : List ℕ → ℕ → ℕ → Type 0
@@ -29,8 +30,9 @@ lowAt w p i = numberAt w (p + 8 * i)
 abbrev pub highAt : List ℕ → ℕ → ℕ → ℕ
 highAt w p i = numberAt w (p + 8 * i + 4)
 
--- each of n pairs ends behind those before it
+-- each of n pairs starts and ends behind those before it
 pub record Rises (w : List ℕ) (n p : ℕ) : Type 0 where
+  pub apart : (i k : ℕ) → i < k → k < n → highAt w p i < lowAt w p k
   pub each : (i k : ℕ) → i < k → k < n → highAt w p i < highAt w p k
 
 -- r of n pairs end before the key q ..
@@ -42,6 +44,35 @@ pub record Passed (w : List ℕ) (n p q r : ℕ) : Type 0 where
 pub record Reach (w : List ℕ) (n p q r : ℕ) : Type 0 where
   pub passed : Passed w n p q r
   pub after : r < n → q ≤ highAt w p r
+
+-- r is the key just behind the last of the first j pairs, or 0
+pub record Floor (w : List ℕ) (p j r : ℕ) : Type 0 where
+  pub none : j ≡ 0 → r ≡ 0
+  pub some : 0 < j → r ≡ highAt w p (j - 1) + 1
+
+-- no point has a key above this
+abbrev pub last : ℕ
+last = 8589934592
+
+-- one of n pairs holds a key from floor to high just where it is not below low, and q is such a key
+pub record Spans (w : List ℕ) (n p q floor low high : ℕ) : Type 0 where
+  pub from : floor ≤ q
+  pub to : q ≤ high
+  pub each : (k : ℕ) → floor ≤ k → k ≤ high → anyHas (pairsAt w n p) k ≡ leb low k
+
+-- by the tag: not-sets and wildcards hold what no pair does
+unfoldable pub byLow : ℕ → ℕ → ℕ → Bool
+byLow tag low q = pick (leb 4 tag) (ltb q low) (leb low q)
+
+-- the transition holds just those of the points with a key from floor to high ..
+pub record Tells (t : Transition) (tag floor low high : ℕ) : Type 0 where
+  pub each : (point : ℕ) → floor ≤ point + origin → point + origin ≤ high → holds t point ≡ byLow tag low (point + origin)
+
+-- .. and q is such a key
+pub record Covers (t : Transition) (tag q floor low high : ℕ) : Type 0 where
+  pub tells : Tells t tag floor low high
+  pub from : floor ≤ q
+  pub to : q ≤ high
 
 -- the first points of k segments from `at` on, which stand as low, high
 unfoldable pub lows : List ℕ → ℕ → ℕ → List ℕ
@@ -63,30 +94,3 @@ column t (p ∷ ps) (x ∷ xs) = (bit (holds t p) + 2 * x) ∷ column t ps xs
 pub record Columned (count : ℕ) (xs : List ℕ) : Type 0 where
   pub room : count ≤ length xs
   pub small : (i : ℕ) → i < count → getD xs i 0 < 2 ^ 63
-
--- k masks of so many words
-unfoldable pub chunks : ℕ → ℕ → List ℕ → List (List ℕ)
-chunks zero words ns = []
-chunks (suc k) words ns = take words ns ∷ chunks k words (drop words ns)
-
--- the masks ds stand in front of what was there, and r is how many
-pub record Stand (ds : List (List ℕ)) (old : List ℕ) (r : ℕ) (new : List ℕ) : Type 0 where
-  pub count : r ≡ length ds
-  pub is : new ≡ lay 0 (flat ds) old
-
--- the mask m was put behind ds, if it is new, and r is its place
-pub record Entered (ds : List (List ℕ)) (m old : List ℕ) (r : ℕ) (new : List ℕ) : Type 0 where
-  pub place : r ≡ placeOf (addNew ds m) m
-  pub is : new ≡ lay 0 (flat (addNew ds m)) old
-
--- the distinct ones of the masks ms stand, r of them, and the place of each of ms was written over `olds`, which gave `news`
-pub record Gathered (ms : List (List ℕ)) (old : List ℕ) (r : ℕ) (new olds news : List ℕ) : Type 0 where
-  pub masks : Stand (distinct [] ms) old r new
-  pub places : news ≡ lay 0 (placesIn (distinct [] ms) ms) olds
-
--- so many masks of so many words stand in ms, `out` could take them all, and `places` as many numbers
-pub record Spaced (ms : List ℕ) (count words : ℕ) (out places : List ℕ) : Type 0 where
-  pub some : count * words ≤ length ms
-  pub room : count * words ≤ length out
-  pub each : count ≤ length places
-  pub few : count ≤ 2047

@@ -1,21 +1,17 @@
-// The masks of the segments of a list of transitions: which transitions hold a segment, 64 to a word, for each segment, and the distinct ones
-// among them. A list may be of any length and hold any bytes.
+// The masks of the segments of a list of transitions: which transitions hold a segment, 64 to a word, for each segment. A list may be of any
+// length and hold any bytes. The answer `Places` is that of `distinct_masks` above, whose definitions stand here with the others.
 ghost use mathlib.Core.Path.{_≡_};
-ghost use mathlib.Core.List.{[]};
-ghost use mathlib.Core.Bool.{true, not, _||_};
+ghost use mathlib.Core.Bool.{true};
 ghost use Prim.Native.Nat.{_+_, _*_, _/_, _≤_, _<_, min};
-ghost use lib.Dec.{eqb, ltb};
-ghost use lib.ListN.{length, take, drop};
-ghost use Rattle.refusal.specs.Lists.{pick};
+ghost use lib.ListN.{length};
 ghost use Rattle.written.specs.Over.{lay, Put, zeros};
-ghost use Rattle.transitions.specs.Transition.{origin, pairHas, anyHas, holds, holdAt, orderly, inOrder};
-ghost use Rattle.transitions.specs.Bytes.{numberAt, sizeAt, pairsAt, shapeOf, transOf};
+ghost use Rattle.transitions.specs.Transition.{origin, atom, holds, holdAt, inOrder};
+ghost use Rattle.transitions.specs.Bytes.{numberAt, sizeAt, shapeOf, transOf};
 ghost use Rattle.transitions.specs.Read.{parse, accepted};
 ghost use Rattle.transitions.specs.Walk.{transAt, transFrom};
-ghost use Rattle.masks.specs.Masks.{bit, wordOf, maskOf, masksAt, flat, isZero, eqList, index};
-ghost use Rattle.masks.specs.Walk.{Fit, nextOf, Rises, Passed, Reach, lows, column, Columned, chunks, Entered, Gathered, Spaced};
-ghost use Rattle.masks.specs.Answer.{parseMasks, parseDistinct, parsePlaces, Matrix, Distinct, Placed, Ready};
-use refusal::NONE;
+ghost use Rattle.masks.specs.Masks.{bit, wordOf, maskOf, masksAt, flat};
+ghost use Rattle.masks.specs.Walk.{Fit, nextOf, Rises, Passed, Reach, Floor, last, Spans, byLow, Tells, Covers, lows, column, Columned};
+ghost use Rattle.masks.specs.Answer.{parseMasks, Matrix, Ready};
 use refusal::ROOM;
 use refusal::Refusal;
 use segments::Segments;
@@ -24,11 +20,21 @@ use transitions::Transitions;
 // The key of the point 0.
 const ORIGIN: u64 = 2147483648;
 
-// Words of the most masks that a list may have, with some to spare.
-const WORDS: usize = 8192;
+// No point has a key above LAST; PAST is above it.
+const LAST: u64 = 8589934592;
 
-// A place for each of the most segments that a list may have, and one to spare.
-const PLACES: usize = 2048;
+const PAST: u64 = 8589934593;
+
+// Words of the most masks that a list may have, with some to spare.
+pub const WORDS: usize = 8192;
+
+// The keys from `floor` to `high`, of which a record's pairs hold just those that are not below `low`. `pairs` of them end before.
+struct Span {
+    pairs: usize,
+    floor: u64,
+    low: u64,
+    high: u64,
+}
 
 // How many masks there are, and of how many words each, or why there are none.
 pub enum Masks {
@@ -64,6 +70,12 @@ fn number_at(list: &[u8], p: usize) -> u64
     (a + 256 * b + 65536 * c + 16777216 * d + ORIGIN) % 4294967296
 }
 
+fn key_of(point: u32) -> u64
+    ensures { λ r. ⌜ (r ≡ point + origin) × (r ≤ last) ⌝ }
+{
+    (point as u64) + ORIGIN
+}
+
 fn size_at(list: &[u8], p: usize) -> usize
     requires { ⌜ p + 2 ≤ length (now list) ⌝ }
     ensures { λ r. ⌜ (r ≡ sizeAt (now (list .entry)) p) × (r < 65536) ⌝ }
@@ -71,15 +83,6 @@ fn size_at(list: &[u8], p: usize) -> usize
     let a = wide(list[p]);
     let b = wide(list[p + 1]);
     (a + 256 * b) as usize
-}
-
-fn pair_has(low: u64, high: u64, q: u64) -> bool
-    ensures { λ r. ⌜ r ≡ pairHas low high q ⌝ }
-{
-    if low <= q {
-        return q <= high;
-    }
-    false
 }
 
 // How many of n ascending pairs from p surely end before the key q: as many as the hint says, if the last of these does, or none.
@@ -116,79 +119,96 @@ fn seek(list: &[u8], p: usize, n: usize, q: u64, hint: usize) -> usize
     j
 }
 
-fn seek_point(list: &[u8], p: usize, n: usize, point: u32, hint: usize) -> usize
+// The key just behind the first j of n ascending pairs from p; 0, if j is.
+fn floor_at(list: &[u8], p: usize, n: usize, j: usize) -> u64
+    requires bytes { ⌜ p + 8 * n ≤ length (now list) ⌝ }
+    requires within { ⌜ j ≤ n ⌝ }
+    ensures { λ r. ⌜ Floor (now (list .entry)) p j r ⌝ }
+{
+    if j == 0 {
+        return 0;
+    }
+    number_at(list, p + 8 * (j - 1) + 4) + 1
+}
+
+// The span of the key q for n ascending pairs from p: up to the end of the first pair that reaches q, or to the last key, if none does.
+fn pair_span(list: &[u8], p: usize, n: usize, q: u64, hint: usize) -> Span
     requires bytes { ⌜ p + 8 * n ≤ length (now list) ⌝ }
     requires order { ⌜ Rises (now list) n p ⌝ }
-    ensures { λ r. ⌜ Reach (now (list .entry)) n p (point + origin) r ⌝ }
+    requires key { ⌜ q ≤ last ⌝ }
+    ensures { λ r. ⌜ Spans (now (list .entry)) n p q (r .floor) (r .low) (r .high) ⌝ }
 {
-    seek(list, p, n, (point as u64) + ORIGIN, hint)
+    let j = seek(list, p, n, q, hint);
+    let floor = floor_at(list, p, n, j);
+    if j < n {
+        let low = number_at(list, p + 8 * j);
+        let high = number_at(list, p + 8 * j + 4);
+        return Span {
+            pairs: j,
+            floor,
+            low,
+            high,
+        };
+    }
+    Span {
+        pairs: j,
+        floor,
+        low: PAST,
+        high: LAST,
+    }
 }
 
-// Does one of n pairs in order hold the key q, before which j of them end?
-fn meets(list: &[u8], p: usize, n: usize, q: u64, j: usize) -> bool
-    requires bytes { ⌜ p + 8 * n ≤ length (now list) ⌝ }
-    requires order { ⌜ orderly 0 (pairsAt (now list) n p) ≡ true ⌝ }
-    requires reach { ⌜ Reach (now list) n p q j ⌝ }
-    ensures { λ r. ⌜ r ≡ anyHas (pairsAt (now (list .entry)) n p) q ⌝ }
+// The span of the key q for the atom x.
+fn atom_span(x: u64, q: u64) -> Span
+    requires number { ⌜ x < 4294967296 ⌝ }
+    requires key { ⌜ q ≤ last ⌝ }
+    ensures { λ r. ⌜ Covers (atom x) 1 q (r .floor) (r .low) (r .high) ⌝ }
 {
-    if j < n {
-        if number_at(list, p + 8 * j) <= q {
-            return true;
+    if q <= x {
+        return Span {
+            pairs: 0,
+            floor: 0,
+            low: x,
+            high: x,
+        };
+    }
+    Span {
+        pairs: 0,
+        floor: x + 1,
+        low: PAST,
+        high: LAST,
+    }
+}
+
+// The span of the key q for a record whose value, of `size` bytes, starts at p. A good hint, how many of its pairs end before q, saves the way.
+fn find_span(list: &[u8], tag: u8, size: usize, p: usize, q: u64, hint: usize) -> Span
+    requires bytes { ⌜ p + size ≤ length (now list) ⌝ }
+    requires fits { ⌜ shapeOf tag size ≡ true ⌝ }
+    requires order { ⌜ inOrder (transOf (now list) tag size p) ≡ true ⌝ }
+    requires key { ⌜ q ≤ last ⌝ }
+    ensures { λ r. ⌜ Covers (transOf (now (list .entry)) tag size p) tag q (r .floor) (r .low) (r .high) ⌝ }
+{
+    if tag == 1 {
+        return atom_span(number_at(list, p), q);
+    }
+    pair_span(list, p, size / 8, q, hint)
+}
+
+// The same; the last span found, if q lies in it.
+fn span_at(list: &[u8], tag: u8, size: usize, p: usize, q: u64, found: Span) -> Span
+    requires bytes { ⌜ p + size ≤ length (now list) ⌝ }
+    requires fits { ⌜ shapeOf tag size ≡ true ⌝ }
+    requires order { ⌜ inOrder (transOf (now list) tag size p) ≡ true ⌝ }
+    requires key { ⌜ q ≤ last ⌝ }
+    requires known { ⌜ Tells (transOf (now list) tag size p) tag (found .floor) (found .low) (found .high) ⌝ }
+    ensures { λ r. ⌜ Covers (transOf (now (list .entry)) tag size p) tag q (r .floor) (r .low) (r .high) ⌝ }
+{
+    if found.floor <= q {
+        if q <= found.high {
+            return found;
         }
     }
-    false
-}
-
-fn flip(b: bool) -> bool
-    ensures { λ r. ⌜ r ≡ not b ⌝ }
-{
-    if b {
-        return false;
-    }
-    true
-}
-
-fn same(a: u64, b: u64) -> bool
-    ensures { λ r. ⌜ r ≡ eqb a b ⌝ }
-{
-    a == b
-}
-
-// Does the transition of a record hold the point? Its value, of `size` bytes, starts at p, and j of its pairs end before the point.
-fn holds_at(list: &[u8], tag: u8, size: usize, p: usize, point: u32, j: usize) -> bool
-    requires bytes { ⌜ p + size ≤ length (now list) ⌝ }
-    requires fits { ⌜ shapeOf tag size ≡ true ⌝ }
-    requires order { ⌜ inOrder (transOf (now list) tag size p) ≡ true ⌝ }
-    requires reach { ⌜ Reach (now list) (size / 8) p (point + origin) j ⌝ }
-    ensures { λ r. ⌜ r ≡ holds (transOf (now (list .entry)) tag size p) point ⌝ }
-{
-    let q = (point as u64) + ORIGIN;
-    if tag == 1 {
-        return same(number_at(list, p), q);
-    }
-    if tag == 2 {
-        let low = number_at(list, p);
-        let high = number_at(list, p + 4);
-        return pair_has(low, high, q);
-    }
-    if tag == 3 {
-        return meets(list, p, size / 8, q, j);
-    }
-    if tag == 4 {
-        return flip(meets(list, p, size / 8, q, j));
-    }
-    true
-}
-
-// The same, sought from the first pair.
-fn holds_from(list: &[u8], tag: u8, size: usize, p: usize, point: u32) -> bool
-    requires bytes { ⌜ p + size ≤ length (now list) ⌝ }
-    requires fits { ⌜ shapeOf tag size ≡ true ⌝ }
-    requires order { ⌜ inOrder (transOf (now list) tag size p) ≡ true ⌝ }
-    ensures { λ r. ⌜ r ≡ holds (transOf (now (list .entry)) tag size p) point ⌝ }
-{
-    let j = seek_point(list, p, size / 8, point, 0);
-    holds_at(list, tag, size, p, point, j)
+    find_span(list, tag, size, p, q, found.pairs)
 }
 
 fn bit_of(b: bool) -> u64
@@ -198,6 +218,28 @@ fn bit_of(b: bool) -> u64
         return 1;
     }
     0
+}
+
+// The bit of a key that lies in a span with this low: is it held?
+fn held(tag: u8, low: u64, q: u64) -> u64
+    ensures { λ r. ⌜ (r ≡ bit (byLow tag low q)) × (r ≤ 1) ⌝ }
+{
+    if 4 <= tag {
+        return bit_of(q < low);
+    }
+    bit_of(low <= q)
+}
+
+// The bit of a record and a point: does its transition hold it? Its value, of `size` bytes, starts at p.
+fn bit_from(list: &[u8], tag: u8, size: usize, p: usize, point: u32) -> u64
+    requires bytes { ⌜ p + size ≤ length (now list) ⌝ }
+    requires fits { ⌜ shapeOf tag size ≡ true ⌝ }
+    requires order { ⌜ inOrder (transOf (now list) tag size p) ≡ true ⌝ }
+    ensures { λ r. ⌜ (r ≡ bit (holds (transOf (now (list .entry)) tag size p) point)) × (r ≤ 1) ⌝ }
+{
+    let q = key_of(point);
+    let span = find_span(list, tag, size, p, q, 0);
+    held(tag, span.low, q)
 }
 
 // The mask word of the n records from `at` on: bit i is set where record i holds the point.
@@ -211,7 +253,7 @@ fn word_of(list: &[u8], at: usize, n: usize, point: u32) -> u64
     }
     let tag = list[at];
     let size = size_at(list, at + 1);
-    let b = bit_of(holds_from(list, tag, size, at + 3, point));
+    let b = bit_from(list, tag, size, at + 3, point);
     let more = word_of(list, at + 3 + size, n - 1, point);
     b + 2 * more
 }
@@ -259,8 +301,8 @@ fn put_mask(list: &[u8], n: usize, point: u32, out: &mut [u64], k: usize) -> usi
     m
 }
 
-// Puts a bit in front of the words of `count` segments: does the transition of a record hold them? Segments ascend, so that the pairs that end
-// before one are the hint for the next.
+// Puts a bit in front of the words of `count` segments: does the transition of a record hold them? Segments ascend, so that most lie in the
+// span of the one before.
 fn add_column(
     list: &[u8],
     tag: u8,
@@ -280,11 +322,16 @@ fn add_column(
     let mut left = count;
     let mut at: usize = 0;
     let mut k: usize = 0;
-    let mut j: usize = 0;
+    let mut span = Span {
+        pairs: 0,
+        floor: 1,
+        low: 0,
+        high: 0,
+    };
     while 0 < left {
-        let point = segments[at];
-        j = seek_point(list, p, size / 8, point, j);
-        let b = bit_of(holds_at(list, tag, size, p, point, j));
+        let q = key_of(segments[at]);
+        span = span_at(list, tag, size, p, q, span);
+        let b = held(tag, span.low, q);
         out[k] = b + 2 * out[k];
         at += 2;
         k += 1;
@@ -396,206 +443,5 @@ pub fn segment_mask_matrix(list: &[u8], segments: &mut [u32], masks: &mut [u64])
     match segments::char_segments(list, segments) {
         Segments::Count(count) => fill_masks(list, segments, count, masks),
         Segments::Refused(r) => Masks::Refused(r),
-    }
-}
-
-// Is the mask at `at` empty?
-fn is_zero(masks: &[u64], at: usize, words: usize) -> bool
-    requires { ⌜ at + words ≤ length (now masks) ⌝ }
-    ensures { λ r. ⌜ r ≡ isZero (take words (drop at (now (masks .entry)))) ⌝ }
-{
-    let mut here = at;
-    let mut left = words;
-    while 0 < left {
-        if masks[here] != 0 {
-            return false;
-        }
-        here += 1;
-        left -= 1;
-    }
-    true
-}
-
-// Is the mask at p of one buffer that at `at` of the other?
-fn same_at(known: &[u64], p: usize, masks: &[u64], at: usize, words: usize) -> bool
-    requires one { ⌜ p + words ≤ length (now known) ⌝ }
-    requires other { ⌜ at + words ≤ length (now masks) ⌝ }
-    ensures { λ r. ⌜ r ≡ eqList (take words (drop p (now (known .entry)))) (take words (drop at (now (masks .entry)))) ⌝ }
-{
-    let mut i = p;
-    let mut j = at;
-    let mut left = words;
-    while 0 < left {
-        if known[i] != masks[j] {
-            return false;
-        }
-        i += 1;
-        j += 1;
-        left -= 1;
-    }
-    true
-}
-
-// The place of the mask at `at` among the first d of the known ones, or d.
-fn find_mask(known: &[u64], d: usize, masks: &[u64], at: usize, words: usize) -> usize
-    requires some { ⌜ d * words ≤ length (now known) ⌝ }
-    requires one { ⌜ at + words ≤ length (now masks) ⌝ }
-    ensures { λ r. ⌜ r ≡ index (chunks d words (now (known .entry))) (take words (drop at (now (masks .entry)))) ⌝ }
-{
-    let mut left = d;
-    let mut p: usize = 0;
-    let mut i: usize = 0;
-    while 0 < left {
-        if same_at(known, p, masks, at, words) {
-            return i;
-        }
-        p += words;
-        i += 1;
-        left -= 1;
-    }
-    i
-}
-
-fn put_words(masks: &[u64], at: usize, words: usize, out: &mut [u64], k: usize) -> usize
-    requires one { ⌜ at + words ≤ length (now masks) ⌝ }
-    requires room { ⌜ k + length (take words (drop at (now masks))) ≤ length (now out) ⌝ }
-    ensures { λ r. ⌜ Put (take words (drop at (now (masks .entry)))) k (now (out .entry)) r (now (out .exit)) ⌝ }
-{
-    let mut here = at;
-    let mut left = words;
-    let mut m = k;
-    while 0 < left {
-        out[m] = masks[here];
-        here += 1;
-        left -= 1;
-        m += 1;
-    }
-    m
-}
-
-// The place of the mask at `at` among the d distinct ones, behind which it is put if it is new. An empty one is not, and has no place.
-fn add_mask(masks: &[u64], at: usize, words: usize, out: &mut [u64], d: usize) -> u32
-    requires one { ⌜ at + words ≤ length (now masks) ⌝ }
-    requires room { ⌜ d * words + words ≤ length (now out) ⌝ }
-    requires few { ⌜ d < 2048 ⌝ }
-    ensures { λ r. ⌜ Entered (chunks d words (now (out .entry))) (take words (drop at (now (masks .entry)))) (now (out .entry)) r (now (out .exit)) ⌝ }
-{
-    if is_zero(masks, at, words) {
-        return NONE;
-    }
-    let i = find_mask(out, d, masks, at, words);
-    if i < d {
-        return i as u32;
-    }
-    put_words(masks, at, words, out, d * words);
-    d as u32
-}
-
-// How many distinct masks there are behind one whose place is known: a new one stands behind the d others.
-fn count_with(d: usize, place: u32) -> usize
-    requires { ⌜ d < 2048 ⌝ }
-    ensures { λ r. ⌜ r ≡ pick (eqb place d) (d + 1) d ⌝ }
-{
-    if place as usize == d {
-        return d + 1;
-    }
-    d
-}
-
-// Writes the distinct ones of the first `count` masks, and the place of each mask among them. Answers how many they are.
-fn put_distinct(
-    masks: &[u64],
-    count: usize,
-    words: usize,
-    out: &mut [u64],
-    places: &mut [u32],
-) -> usize
-    requires { ⌜ Spaced (now masks) count words (now out) (now places) ⌝ }
-    ensures { λ r. ⌜ Gathered (chunks count words (now (masks .entry))) (now (out .entry)) r (now (out .exit)) (now (places .entry)) (now (places .exit)) ⌝ }
-{
-    let mut left = count;
-    let mut at: usize = 0;
-    let mut d: usize = 0;
-    let mut i: usize = 0;
-    while 0 < left {
-        let place = add_mask(masks, at, words, out, d);
-        places[i] = place;
-        d = count_with(d, place);
-        at += words;
-        i += 1;
-        left -= 1;
-    }
-    d
-}
-
-fn clear_both(words: &mut [u64], numbers: &mut [u32])
-    ensures { λ _. ⌜ (now (words .exit) ≡ zeros (length (now (words .entry)))) × (now (numbers .exit) ≡ zeros (length (now (numbers .entry)))) ⌝ }
-{
-    written::clear_words(words);
-    written::clear(numbers);
-}
-
-fn too_short(out: usize, places: usize) -> bool
-    ensures { λ r. ⌜ r ≡ (ltb out 8192 || ltb places 2048) ⌝ }
-{
-    if out < WORDS {
-        return true;
-    }
-    places < PLACES
-}
-
-// The segments of a list, the mask of each, the distinct ones of those that are not empty, in order of first segment, and for each segment
-// the place of its mask among these, or NONE. Refused: every number of the four buffers is 0. Accepted: behind the answer's numbers there are
-// zeros.
-pub fn place_masks(
-    list: &[u8],
-    segments: &mut [u32],
-    masks: &mut [u64],
-    out: &mut [u64],
-    places: &mut [u32],
-) -> Places
-    ensures { λ r. ⌜ Placed r (length (now (segments .entry))) (now (segments .exit)) (length (now (masks .entry))) (now (masks .exit)) (length (now (out .entry))) (now (out .exit)) (length (now (places .entry))) (now (places .exit)) (parsePlaces (length (now (segments .entry))) (length (now (masks .entry))) (length (now (out .entry))) (length (now (places .entry))) (now (list .entry))) ⌝ }
-{
-    clear_both(out, places);
-    if too_short(out.len(), places.len()) {
-        clear_both(masks, segments);
-        return Places::Refused(Refusal {
-            number: ROOM,
-            place: 0,
-        });
-    }
-    match segment_mask_matrix(list, segments, masks) {
-        Masks::Count {
-            masks: count,
-            words,
-        } => {
-            let d = put_distinct(masks, count, words, out, places);
-            Places::Found {
-                segments: count,
-                masks: d,
-                words,
-            }
-        }
-        Masks::Refused(r) => Places::Refused(r),
-    }
-}
-
-// The same without the places.
-pub fn distinct_masks(
-    list: &[u8],
-    segments: &mut [u32],
-    masks: &mut [u64],
-    out: &mut [u64],
-) -> Masks
-    ensures { λ r. ⌜ Distinct r (length (now (segments .entry))) (now (segments .exit)) (length (now (masks .entry))) (now (masks .exit)) (length (now (out .entry))) (now (out .exit)) (parseDistinct (length (now (segments .entry))) (length (now (masks .entry))) (length (now (out .entry))) (now (list .entry))) ⌝ }
-{
-    let mut places = [0u32; 2048];
-    match place_masks(list, segments, masks, out, &mut places) {
-        Places::Found {
-            segments: count,
-            masks: d,
-            words,
-        } => Masks::Count { masks: d, words },
-        Places::Refused(r) => Masks::Refused(r),
     }
 }

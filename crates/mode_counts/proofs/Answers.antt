@@ -17,7 +17,7 @@ use Rattle.modes.specs.declared.StateCount.{StateCount}
 use Rattle.modes.specs.declared.StateCount.the-variants.{States, NotTable}
 use Rattle.modes.specs.Modes.{countSaid, stateCount, numbers, modesUpTo, ofModes}
 use Rattle.modes.proofs.Numbers.{numbers-length}
-use Rattle.modes.proofs.Laws.{modes-lie}
+use Rattle.all_modes.proofs.Laws.{modes-lie}
 use Rattle.mode_counts.specs.declared.Listed.{Listed}
 use Rattle.mode_counts.specs.declared.Listed.the-variants.{Numbers, Refused}
 use Rattle.mode_counts.specs.Written.{wrote, refused, said, Writes}

@@ -41,7 +41,8 @@ countsOf c l = differences (compiledOf l ++ (c ∷ []))
 abbrev pub later : ℕ → ℕ → ℕ
 later last x = pick (compiled x) x last
 
--- "ORDER names the first compiled mode whose start is below the compiled mode's before it", by its number among all modes; NONE is below none
+-- "ORDER names the first compiled mode whose start is below the compiled mode's before it": its number among all modes, or, where there is
+-- none, how many modes there are. `last` is the start of the compiled mode before; a mode without a start holds NONE, which is below no start
 unfoldable pub descent : ℕ → List ℕ → ℕ
 descent last [] = 0
 descent last (x ∷ l) = pick (ltb x last) 0 (suc (descent (later last x) l))

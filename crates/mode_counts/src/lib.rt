@@ -22,17 +22,6 @@ pub enum Listed {
     Refused(Refusal),
 }
 
-// Makes every number 0.
-fn clear(out: &mut [u32])
-    ensures { λ _. ⌜ now (out .exit) ≡ zeros (length (now (out .entry))) ⌝ }
-{
-    let mut i = 0;
-    while i < out.len() {
-        out[i] = 0;
-        i += 1;
-    }
-}
-
 // Refuses, with nothing written into a buffer of zeros.
 fn refuse(number: u32, place: usize, out: &mut [u32]) -> Listed
     requires { ⌜ now out ≡ zeros (length (now out)) ⌝ }
@@ -84,8 +73,8 @@ fn flags_into(room: &[u32], at: usize, count: u32, out: &mut [u32]) -> Listed
 pub fn compiled_mode_flags(room: &[u32], out: &mut [u32]) -> Listed
     ensures { λ r. ⌜ Writes r (length (now (out .entry))) (now (out .exit)) (modeFlags (now (room .entry)) (length (now (out .entry)))) ⌝ }
 {
-    clear(out);
-    match modes::find_modes(room, 65535) {
+    written::clear(out);
+    match all_modes::find_modes(room, 65535) {
         Modes::Starts(at, count) => flags_into(room, at, count, out),
         Modes::Outside => refuse(NOT_TABLE, 0, out),
     }
@@ -217,7 +206,7 @@ fn counts_with(room: &[u32], states: u32, out: &mut [u32]) -> Listed
     requires { ⌜ now out ≡ zeros (length (now out)) ⌝ }
     ensures { λ r. ⌜ Writes r (length (now (out .entry))) (now (out .exit)) (countsWith (now (room .entry)) (length (now (out .entry))) states) ⌝ }
 {
-    match modes::find_modes(room, limit_of(states)) {
+    match all_modes::find_modes(room, limit_of(states)) {
         Modes::Starts(at, count) => counts_into(room, at, count, states, out),
         Modes::Outside => refuse(NOT_TABLE, 0, out),
     }
@@ -227,7 +216,7 @@ fn counts_with(room: &[u32], states: u32, out: &mut [u32]) -> Listed
 pub fn mode_state_counts(room: &[u32], out: &mut [u32]) -> Listed
     ensures { λ r. ⌜ Writes r (length (now (out .entry))) (now (out .exit)) (modeStateCounts (now (room .entry)) (length (now (out .entry)))) ⌝ }
 {
-    clear(out);
+    written::clear(out);
     match modes::state_count(room) {
         StateCount::States(states) => counts_with(room, states, out),
         StateCount::NotTable => refuse(NOT_TABLE, 0, out),

@@ -38,6 +38,11 @@ numbers w (suc n) at = getD w at 0 ∷ numbers w n (at + 1)
 abbrev pub upTo : ℕ → ℕ → Bool
 upTo limit x = leb x limit || eqb x NONE
 
+-- where the starts of the modes stand, and how many there are; or a refusal
+abbrev pub modesSaid : Modes → Said
+modesSaid (Starts at n) = ok (at ∷ n ∷ [])
+modesSaid Outside = no NOT-TABLE 0
+
 -- n modes behind their count at s: all of them lie in their section, and no start is past the limit
 abbrev pub modesWith : List ℕ → ℕ → ℕ → ℕ → ℕ → Modes
 modesWith w s e n limit = pick (ltb (n + s) e) (pick (every (upTo limit) (numbers w n (s + 1))) (Starts (s + 1) n) Outside) Outside

@@ -83,7 +83,8 @@ firstIn k w n row = firstEqual (standing k row) (rowsFrom k w n 0)
 unfoldable pub findOrAppend : Kind → List ℕ → ℕ → List ℕ → Outcome
 findOrAppend k w n row = pick (ltb (firstIn k w n row) n) (found (firstIn k w n row)) (append k w n row)
 
--- "answer the place of the first equal row, else append. Order: NOT-TABLE (the stated rows don't fit the lent pool), FIELD, ROOM."
+-- "answer the place of the first equal row, else append. Order: NOT-TABLE (the stated rows don't fit the lent pool), FIELD (ascii row not 128 long; wide
+-- row not in threes, or a target past 65535), ROOM."
 unfoldable pub intern : Kind → List ℕ → ℕ → List ℕ → Outcome
 intern k w n row =
     pick (ltb (length w) (behind k w n 0)) (refused NOT-TABLE)

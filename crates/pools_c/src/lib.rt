@@ -30,7 +30,7 @@ fn interned_in_c(interned: Interned) -> CInterned
 pub extern "C" fn lexer_dfa_intern_ascii(pool: &mut [u16], rows: usize, row: &[u16]) -> CInterned
     ensures { λ r. ⌜ (r ≡ internedInC (pooling.outcomeSaid (pooling.intern ascii (now (pool .entry)) rows (now (row .entry))))) × (now (pool .exit) ≡ pooling.leftIn (now (pool .entry)) (pooling.intern ascii (now (pool .entry)) rows (now (row .entry)))) ⌝ }
 {
-    interned_in_c(pools::intern_ascii(pool, rows, row))
+    interned_in_c(ascii_pool::intern_ascii(pool, rows, row))
 }
 
 // Interns a row of ranges, three numbers each.
@@ -38,5 +38,5 @@ pub extern "C" fn lexer_dfa_intern_ascii(pool: &mut [u16], rows: usize, row: &[u
 pub extern "C" fn lexer_dfa_intern_wide(pool: &mut [u32], rows: usize, row: &[u32]) -> CInterned
     ensures { λ r. ⌜ (r ≡ internedInC (pooling.outcomeSaid (pooling.intern wide (now (pool .entry)) rows (now (row .entry))))) × (now (pool .exit) ≡ pooling.leftIn (now (pool .entry)) (pooling.intern wide (now (pool .entry)) rows (now (row .entry)))) ⌝ }
 {
-    interned_in_c(pools::intern_wide(pool, rows, row))
+    interned_in_c(wide_pool::intern_wide(pool, rows, row))
 }

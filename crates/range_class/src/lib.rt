@@ -10,7 +10,7 @@ use refusal::FIELD;
 use refusal::MAX_RANGES;
 use refusal::Refusal;
 
-// What a byte is by its value. Hex letters are those from A to F, and letters the others.
+// What a byte is by its value. Hex letters are A to F and a to f, and `Letter` is every other letter.
 pub enum ByteClass {
     Digit,
     HexLetter,

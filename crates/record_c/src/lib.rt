@@ -73,7 +73,7 @@ fn state_scan_in_c(scan: StateScan) -> CStateScan
 pub extern "C" fn lexer_dfa_scan_ascii_run(room: &[u32], state: u16, input: &[u8]) -> CStateScan
     ensures { λ r. ⌜ r ≡ stateScanInC (scanning.scannedBy (scanning.asciiRun (now (room .entry)) state) (now (input .entry))) ⌝ }
 {
-    state_scan_in_c(state_run::scan_ascii_run_length(room, state, input))
+    state_scan_in_c(state_scan_length::scan_ascii_run_length(room, state, input))
 }
 
 fn accept_in_c(got: AcceptRecord) -> CAccept
@@ -113,7 +113,7 @@ fn accept_in_c(got: AcceptRecord) -> CAccept
 pub extern "C" fn lexer_dfa_accept_record(room: &[u32], number: u32) -> CAccept
     ensures { λ r. ⌜ r ≡ acceptInC (recorded.recordOf (now (room .entry)) number) ⌝ }
 {
-    accept_in_c(accepts::accept_record(room, number))
+    accept_in_c(accept_records::accept_record(room, number))
 }
 
 // Where its actions stand in the room.
@@ -121,7 +121,7 @@ pub extern "C" fn lexer_dfa_accept_record(room: &[u32], number: u32) -> CAccept
 pub extern "C" fn lexer_dfa_accept_actions(room: &[u32], number: u32) -> Span
     ensures { λ r. ⌜ r ≡ recorded.actionsSpan (now (room .entry)) number ⌝ }
 {
-    accepts::accept_actions_span(room, number)
+    accept_records::accept_actions_span(room, number)
 }
 
 fn continuation_in_c(got: ContinuationRecord) -> CContinuation
@@ -154,7 +154,7 @@ fn continuation_in_c(got: ContinuationRecord) -> CContinuation
 pub extern "C" fn lexer_dfa_continuation_record(room: &[u32], number: u32) -> CContinuation
     ensures { λ r. ⌜ r ≡ continuationInC (resumed.recordOf (now (room .entry)) number) ⌝ }
 {
-    continuation_in_c(configs::continuation_record(room, number))
+    continuation_in_c(continuation_records::continuation_record(room, number))
 }
 
 // Where its contexts stand in the room.
@@ -162,7 +162,7 @@ pub extern "C" fn lexer_dfa_continuation_record(room: &[u32], number: u32) -> CC
 pub extern "C" fn lexer_dfa_continuation_contexts(room: &[u32], number: u32) -> Span
     ensures { λ r. ⌜ r ≡ resumed.contextsSpan (now (room .entry)) number ⌝ }
 {
-    configs::continuation_contexts_span(room, number)
+    continuation_records::continuation_contexts_span(room, number)
 }
 
 // Where its configs stand in the room.
@@ -170,5 +170,5 @@ pub extern "C" fn lexer_dfa_continuation_contexts(room: &[u32], number: u32) -> 
 pub extern "C" fn lexer_dfa_continuation_configs(room: &[u32], number: u32) -> Span
     ensures { λ r. ⌜ r ≡ resumed.configsSpan (now (room .entry)) number ⌝ }
 {
-    configs::continuation_configs_span(room, number)
+    continuation_records::continuation_configs_span(room, number)
 }

@@ -1,10 +1,10 @@
--- Laws of `before`, `some` and `every`, over any test. Assumes nothing.
+-- Laws of tests, and of `before`, `some` and `every` over any test. Assumes nothing.
 use Prim.Native.Nat.{ℕ, zero, suc, _+_, _-_, _≤_, _<_, min, zero-le}
 use native.Mathlib.Nat.{add-zero, add-suc, suc-add, add-sub-cancel-left}
 use native.Mathlib.Numerals.{add-one}
 use native.Mathlib.Omega.{arith}
 use mathlib.Core.Path.{_≡_, refl, ap, sym, _∙_}
-use mathlib.Core.Bool.{Bool, true, false, not}
+use mathlib.Core.Bool.{Bool, true, false, not, _&&_}
 use mathlib.Core.List.{List, [], _∷_}
 use lib.Dec.{eqb}
 use lib.ListN.{length, getD, take, drop, drop-of-length-le, length-take, length-drop}
@@ -12,6 +12,11 @@ use lib.Seq.{drop-cons, drop-nil, drop-drop, take-all}
 use borrow.Author.Needs.{needs}
 use borrow.Author.Tests.{eq-eqb, ne-eqb}
 use Rattle.refusal.specs.Lists.{pick, before}
+
+-- two tests that hold together
+pub and-split : (a b : Bool) → (a && b) ≡ true → (a ≡ true) × (b ≡ true)
+and-split true b e = (refl, e)
+and-split false b e = let z : _≡_ {A = ℕ} 0 1 = cc in absurd (omega arith)
 
 -- A search for the first place at which a test holds. Its loop's invariant: what is found from here is what is found in all.
 

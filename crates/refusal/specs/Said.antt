@@ -32,7 +32,7 @@ LEFT = 5
 abbrev pub INDEX : ℕ
 INDEX = 6
 
--- a lent buffer is shorter than stated
+-- a lent buffer is shorter than stated, or a pool can't take a new row
 abbrev pub ROOM : ℕ
 ROOM = 7
 
@@ -40,11 +40,12 @@ ROOM = 7
 abbrev pub STATE : ℕ
 STATE = 8
 
--- a number followed leads outside the room or its section, or a number read is one its field forbids
+-- of lookups: a number followed leads outside the room or its section, or a number read is one its field forbids; of encoding and coverage: the room
+-- isn't what decoding leaves for some accepted words; of pools: the stated rows don't fit the lent pool
 abbrev pub NOT-TABLE : ℕ
 NOT-TABLE = 9
 
--- compiled mode starts descend; a set out of order
+-- a set out of order, or compiled mode starts descend
 abbrev pub ORDER : ℕ
 ORDER = 10
 

@@ -105,7 +105,7 @@ fn same_answer(a: Answer, b: Answer) -> bool {
 }
 
 // No number of the room is 0 before, so that one which decoding leaves alone changes the check.
-pub fn replay_decode(record: &[u8]) -> Replayed {
+pub(crate) fn replay_decode(record: &[u8]) -> Replayed {
     let n = size(read::byte(record, 1));
     let words = words_of(read::after(record, 2));
     let mut room = [1u32; ROOM_NUMBERS];

@@ -48,7 +48,7 @@ fn same_words(a: RunWords, b: RunWords) -> bool {
     (a.length == b.length) & (a.first == b.first) & (a.second == b.second) & (a.third == b.third)
 }
 
-pub fn replay_classify(record: &[u8]) -> Replayed {
+pub(crate) fn replay_classify(record: &[u8]) -> Replayed {
     let words = read::words(read::after(record, 21));
     if words.length == 0 {
         return unreadable();
@@ -78,7 +78,7 @@ fn class_answer(answer: RangeClass) -> u8 {
     }
 }
 
-pub fn replay_class(record: &[u8]) -> Replayed {
+pub(crate) fn replay_class(record: &[u8]) -> Replayed {
     let a = read::word(read::after(record, 1));
     let b = read::word(read::after(record, 5));
     let c = read::word(read::after(record, 9));
@@ -157,7 +157,7 @@ fn same_scan(ours: ScanAnswer, recorded: &[u8]) -> bool {
         & (ours.exit == read::byte(recorded, 3))
 }
 
-pub fn replay_scan(record: &[u8]) -> Replayed {
+pub(crate) fn replay_scan(record: &[u8]) -> Replayed {
     let words = read::words(read::after(record, 1));
     if words.length == 0 {
         return unreadable();

@@ -69,15 +69,15 @@ fn answer(room: &[u32], kind: u8, state: u16, symbol: &[u8]) -> u32 {
         2 => count(modes::state_count(room)),
         3 => accepted(accepts::accept(room, state)),
         4 => target(targets::ascii_target(room, state, read::byte(symbol, 0))),
-        5 => target(targets::char_target(room, state, read::word(symbol))),
-        6 => target(targets::eof_target(room, state)),
+        5 => target(char_targets::char_target(room, state, read::word(symbol))),
+        6 => target(char_targets::eof_target(room, state)),
         7 => continuation(continuations::char_continuation(room, state, read::word(symbol))),
         8 => continuation(continuations::eof_continuation(room, state)),
         _ => points(coverage::coverage(room, state)),
     }
 }
 
-pub fn replay_number(room: &[u32], record: &[u8]) -> Replayed {
+pub(crate) fn replay_number(room: &[u32], record: &[u8]) -> Replayed {
     let state = read::half(read::after(record, 1));
     let ours = answer(room, read::byte(record, 0), state, read::after(record, 3));
     Replayed {
@@ -100,12 +100,12 @@ fn same_scan(scan: StateScan, part: usize, recorded: &[u8]) -> bool {
     }
 }
 
-pub fn replay_scan(room: &[u32], record: &[u8]) -> Replayed {
+pub(crate) fn replay_scan(room: &[u32], record: &[u8]) -> Replayed {
     let state = read::half(read::after(record, 1));
     let n = read::size(read::after(record, 3));
     let input = read::front(read::after(record, 5), n);
-    let part = state_run::scan_ascii_run(room, state, input);
-    let scan = state_run::scan_ascii_run_length(room, state, input);
+    let part = state_scan::scan_ascii_run(room, state, input);
+    let scan = state_scan_length::scan_ascii_run_length(room, state, input);
     Replayed {
         bytes: 9 + n,
         same: same_scan(scan, part.len(), read::after(record, 5 + n)),

@@ -22,7 +22,7 @@ fn from_word(x: u32) -> u64 {
     x as u64
 }
 
-pub fn of_halves(before: Sums, out: &[u16]) -> Sums {
+pub(crate) fn of_halves(before: Sums, out: &[u16]) -> Sums {
     let mut sums = before;
     let mut i: usize = 0;
     while i < out.len() {
@@ -32,7 +32,7 @@ pub fn of_halves(before: Sums, out: &[u16]) -> Sums {
     sums
 }
 
-pub fn of_words(before: Sums, out: &[u32]) -> Sums {
+pub(crate) fn of_words(before: Sums, out: &[u32]) -> Sums {
     let mut sums = before;
     let mut i: usize = 0;
     while i < out.len() {
@@ -42,7 +42,7 @@ pub fn of_words(before: Sums, out: &[u32]) -> Sums {
     sums
 }
 
-pub fn of_masks(before: Sums, out: &[u64]) -> Sums {
+pub(crate) fn of_masks(before: Sums, out: &[u64]) -> Sums {
     let mut sums = before;
     let mut i: usize = 0;
     while i < out.len() {

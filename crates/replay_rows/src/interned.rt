@@ -16,19 +16,19 @@ fn number(answer: Interned) -> usize {
 
 // The sums over the pool tell whether it changed as it must.
 fn ascii(rows: usize, pool: &mut [u16], row: &[u16], recorded: &[u8]) -> bool {
-    let ours = number(pools::intern_ascii(pool, rows, row));
+    let ours = number(ascii_pool::intern_ascii(pool, rows, row));
     (ours == read::size(recorded))
         & (check::of_halves(check::NONE, pool).sums == read::check(read::after(recorded, 2)))
 }
 
 fn wide(rows: usize, pool: &mut [u32], row: &[u32], recorded: &[u8]) -> bool {
-    let ours = number(pools::intern_wide(pool, rows, row));
+    let ours = number(wide_pool::intern_wide(pool, rows, row));
     (ours == read::size(recorded))
         & (check::of_words(check::NONE, pool).sums == read::check(read::after(recorded, 2)))
 }
 
 // A pool of three rows of 128 targets.
-pub fn replay_ascii(record: &[u8]) -> Replayed {
+pub(crate) fn replay_ascii(record: &[u8]) -> Replayed {
     let mut pool = [0u16; 384];
     let mut row = [0u16; 128];
     read::halves(read::after(record, 3), &mut pool);
@@ -45,7 +45,7 @@ pub fn replay_ascii(record: &[u8]) -> Replayed {
 }
 
 // A pool of 32 numbers, and a row of two ranges.
-pub fn replay_wide(record: &[u8]) -> Replayed {
+pub(crate) fn replay_wide(record: &[u8]) -> Replayed {
     let mut pool = [0u32; 32];
     let mut row = [0u32; 6];
     read::words(read::after(record, 3), &mut pool);

@@ -19,7 +19,7 @@ const REFUSED: usize = 65536;
 
 fn intervals_of(list: &[u8]) -> Answer {
     let mut out = [1u32; 2048];
-    let answer = transitions::read_intervals(list, &mut out);
+    let answer = interval_ends::read_intervals(list, &mut out);
     let sums = check::of_words(check::NONE, &out).sums;
     match answer {
         Transitions::Read { count, intervals } => Answer {
@@ -79,7 +79,7 @@ fn distinct_of(list: &[u8]) -> Answer {
     let mut segments = [1u32; 4096];
     let mut masks = [1u64; 8192];
     let mut out = [1u64; 8192];
-    let answer = masks::distinct_masks(list, &mut segments, &mut masks, &mut out);
+    let answer = distinct_masks::distinct_masks(list, &mut segments, &mut masks, &mut out);
     masked(answer, check::of_masks(check::NONE, &out).sums)
 }
 
@@ -164,7 +164,7 @@ fn same(answer: Answer, recorded: &[u8]) -> bool {
 }
 
 // The list's length, the list, how many masks are given, what they are given, and the answer.
-pub fn replay_list(record: &[u8]) -> Replayed {
+pub(crate) fn replay_list(record: &[u8]) -> Replayed {
     let kind = read::byte(record, 0);
     let length = read::size(read::after(record, 1));
     let list = read::front(read::after(record, 3), length);

@@ -2,17 +2,17 @@
 // whether a record is whole is seen afterwards, from how many bytes it has.
 ghost use Prim.Native.Nat.{_<_};
 
-pub fn byte(s: &[u8], at: usize) -> u8 {
+pub(crate) fn byte(s: &[u8], at: usize) -> u8 {
     if at < s.len() { s[at] } else { 0 }
 }
 
 // What stands after the first n bytes.
-pub fn after(s: &[u8], n: usize) -> &[u8] {
+pub(crate) fn after(s: &[u8], n: usize) -> &[u8] {
     if n <= s.len() { &s[n..] } else { &s[0..0] }
 }
 
 // The first n bytes, or all of them where there are fewer.
-pub fn front(s: &[u8], n: usize) -> &[u8] {
+pub(crate) fn front(s: &[u8], n: usize) -> &[u8] {
     if n <= s.len() { &s[0..n] } else { s }
 }
 
@@ -28,23 +28,23 @@ fn wider(x: u16) -> u32
     x as u32
 }
 
-pub fn half(s: &[u8]) -> u16 {
+pub(crate) fn half(s: &[u8]) -> u16 {
     wide(byte(s, 0)) + 256 * wide(byte(s, 1))
 }
 
-pub fn word(s: &[u8]) -> u32 {
+pub(crate) fn word(s: &[u8]) -> u32 {
     wider(half(s)) + 65536 * wider(half(after(s, 2)))
 }
 
 // A half that says how many.
-pub fn size(s: &[u8]) -> usize
+pub(crate) fn size(s: &[u8]) -> usize
     ensures { λ r. ⌜ r < 65536 ⌝ }
 {
     half(s) as usize
 }
 
 // A check, of 64 bits.
-pub fn check(s: &[u8]) -> u64 {
+pub(crate) fn check(s: &[u8]) -> u64 {
     longer(word(s)) + 4294967296 * longer(word(after(s, 4)))
 }
 
@@ -55,7 +55,7 @@ fn longer(x: u32) -> u64
 }
 
 // As many halves as there is place for.
-pub fn halves(s: &[u8], out: &mut [u16]) {
+pub(crate) fn halves(s: &[u8], out: &mut [u16]) {
     let mut at: usize = 0;
     let mut i: usize = 0;
     while i < out.len() {
@@ -66,7 +66,7 @@ pub fn halves(s: &[u8], out: &mut [u16]) {
 }
 
 // As many words as there is place for.
-pub fn words(s: &[u8], out: &mut [u32]) {
+pub(crate) fn words(s: &[u8], out: &mut [u32]) {
     let mut at: usize = 0;
     let mut i: usize = 0;
     while i < out.len() {
@@ -77,10 +77,10 @@ pub fn words(s: &[u8], out: &mut [u32]) {
 }
 
 // The first n of them, or all where there are fewer.
-pub fn first_halves(s: &[u16], n: usize) -> &[u16] {
+pub(crate) fn first_halves(s: &[u16], n: usize) -> &[u16] {
     if n <= s.len() { &s[0..n] } else { s }
 }
 
-pub fn first_words(s: &[u32], n: usize) -> &[u32] {
+pub(crate) fn first_words(s: &[u32], n: usize) -> &[u32] {
     if n <= s.len() { &s[0..n] } else { s }
 }

@@ -13,8 +13,10 @@ use lib.Seq.{drop-cons}
 use Rattle.refusal.specs.declared.Refusal.{Refusal}
 use Rattle.words.specs.declared.Place.{Place}
 use Rattle.words.specs.declared.Place.the-variants.{Next, Refused}
-use Rattle.words.specs.Records.{runAt, wideAt, acceptAt, escapeAt, configAt, continuationAt}
-use Rattle.words.proofs.Bounds.{run-in, wide-in, accept-in, escape-in, continuation-in}
+use Rattle.words.specs.Records.{acceptAt, configAt, continuationAt}
+use Rattle.records.specs.declared.Kind.{Kind}
+use Rattle.records.specs.Kinds.{recordAt}
+use Rattle.records.proofs.Laws.{record-in}
 use Rattle.written.specs.Over.{Put}
 use Rattle.written.proofs.Going.{Going, going-start, going-done, going-room, going-turn, going-place, going-put, put-one, put-size-1}
 use Rattle.room.specs.Room.{starts, startsFrom, each, copied, renewed, acceptMade, configMade, continuationMade, shifted, placed}
@@ -77,21 +79,8 @@ module _ (f : ℕ → List ℕ) (g : ℕ → Place) where
     record-done k h = going-done xs n old (rw (each-done left here h) at k)
 
 -- a record that was read starts within the words
-module _ (w : List ℕ) (here : ℕ) {p : ℕ} {got : Place} where
-  pub run-limit : got ≡ runAt w here → got ≡ Next p → length w ≤ 8192 → here ≤ 8192
-  run-limit e i h = omega (arith, run-in w here p (sym e ∙ i))
-
-  pub wide-limit : got ≡ wideAt w here → got ≡ Next p → length w ≤ 8192 → here ≤ 8192
-  wide-limit e i h = omega (arith, wide-in w here p (sym e ∙ i))
-
-  pub accept-limit : got ≡ acceptAt w here → got ≡ Next p → length w ≤ 8192 → here ≤ 8192
-  accept-limit e i h = omega (arith, accept-in w here p (sym e ∙ i))
-
-  pub escape-limit : got ≡ escapeAt w here → got ≡ Next p → length w ≤ 8192 → here ≤ 8192
-  escape-limit e i h = omega (arith, escape-in w here p (sym e ∙ i))
-
-  pub continuation-limit : got ≡ continuationAt w here → got ≡ Next p → length w ≤ 8192 → here ≤ 8192
-  continuation-limit e i h = omega (arith, continuation-in w here p (sym e ∙ i))
+pub record-limit : (k : Kind) (w : List ℕ) (here : ℕ) {p : ℕ} {got : Place} → got ≡ recordAt k w here → got ≡ Next p → length w ≤ 8192 → here ≤ 8192
+record-limit k w here {p} e i h = omega (arith, record-in k w here p (sym e ∙ i))
 
 -- the room for each kind of record, and for a place
 module _ (w : List ℕ) (left here : ℕ) {xs : List ℕ} {n : ℕ} {old : List ℕ} {m : ℕ} {out : List ℕ} {p : ℕ} {got : Place} where
@@ -155,5 +144,4 @@ pub ruleset renewing = (needs, put-size-1, section-first, section-next, accepts-
 -- what a loop over records is left with
 pub ruleset recording = (needs, going-start, accept-room, config-room, continuation-room, record-turn, record-stop, record-done, was)
 
-pub ruleset placing =
-    (needs, places-start, place-room, record-turn, record-stop, record-done, was, run-limit, wide-limit, accept-limit, escape-limit, continuation-limit)
+pub ruleset placing = (needs, places-start, place-room, record-turn, record-stop, record-done, was, record-limit)

@@ -8,6 +8,7 @@ ghost use Rattle.written.specs.Over.{Put};
 ghost use Rattle.room.specs.Room.{four, header, laterMade, made, laterPlaces, places, body, numbers};
 use crate::places;
 use crate::renew;
+use records::Kind;
 
 // Four places, as they are in the room.
 fn put_four(a: usize, b: usize, c: usize, d: usize, room: &mut [u32], n: usize) -> usize
@@ -94,9 +95,9 @@ fn put_later_places(
     requires fits { ⌜ n + length (laterPlaces (now words) accepts «escape_rows» continuations) ≤ length (now room) ⌝ }
     ensures { λ r. ⌜ Put (laterPlaces (now (words .entry)) accepts «escape_rows» continuations) n (now (room .entry)) r (now (room .exit)) ⌝ }
 {
-    let a = places::put_accept_places(words, accepts, room, n);
-    let b = places::put_escape_row_places(words, escape_rows, room, a);
-    places::put_continuation_places(words, continuations, room, b)
+    let a = places::put_record_places(Kind::Accept, words, accepts, room, n);
+    let b = places::put_record_places(Kind::EscapeRow, words, escape_rows, room, a);
+    places::put_record_places(Kind::Continuation, words, continuations, room, b)
 }
 
 // Where the records of variable length start, from place `n` on.
@@ -116,8 +117,8 @@ fn put_places(
     requires fits { ⌜ n + length (places (now words) runs «wide_rows» accepts «escape_rows» continuations) ≤ length (now room) ⌝ }
     ensures { λ r. ⌜ Put (places (now (words .entry)) runs «wide_rows» accepts «escape_rows» continuations) n (now (room .entry)) r (now (room .exit)) ⌝ }
 {
-    let a = places::put_run_places(words, runs, room, n);
-    let b = places::put_wide_row_places(words, wide_rows, room, a);
+    let a = places::put_record_places(Kind::AsciiRun, words, runs, room, n);
+    let b = places::put_record_places(Kind::WideRow, words, wide_rows, room, a);
     put_later_places(words, accepts, escape_rows, continuations, room, b)
 }
 

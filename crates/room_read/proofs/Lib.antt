@@ -1,5 +1,4 @@
 pub mod Records
 pub mod Searches
-pub mod Parts
-pub mod Rows
+pub mod Spans
 pub mod There

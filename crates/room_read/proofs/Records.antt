@@ -1,21 +1,22 @@
--- The laws of finding a record: by the tests that the code makes, where a record that is found lies, and how to go on from it. `got` is what
--- the code found. Assumes nothing.
+-- The laws of finding a record: by the tests that the code makes, where a record that is found lies, how to go on from it, and that `said`
+-- takes no two answers to one. `got` is what the code found. Assumes nothing.
 use Prim.Native.Nat.{ℕ, _+_, _*_, _^_, _<_, _≤_}
 use native.Mathlib.Nat.{mul-le-mul}
 use native.Mathlib.Omega.{arith}
-use mathlib.Core.Path.{_≡_, refl, sym, _∙_}
+use mathlib.Core.Path.{_≡_, refl, sym, ap, _∙_}
 use mathlib.Core.Bool.{Bool, true, false}
-use mathlib.Core.List.{List}
+use mathlib.Core.List.{List, [], _∷_}
 use lib.Dec.{ltb, leb}
 use lib.ListN.{length, getD}
 use mir.Syntax.{w64}
 use mir.Val.{Fits}
 use borrow.Author.Needs.{needs}
 use borrow.Author.Tests.{le-leb, lt-leb, lt-ltb, le-ltb, ltb-true, leb-true}
+use Rattle.refusal.specs.Said.{Said, ok, no}
 use Rattle.refusal.specs.Lists.{pick}
 use Rattle.room_read.specs.declared.Found.{Found}
 use Rattle.room_read.specs.declared.Found.the-variants.{At, Absent, Outside}
-use Rattle.room_read.specs.Room.{recordIn, listedIn, recordAt, stateAt, follow}
+use Rattle.room_read.specs.Room.{said, recordIn, listedIn, recordAt, stateAt, follow}
 
 -- a product of two u32 fits
 pub product : (i s : ℕ) → i ≤ 4294967295 → s ≤ 4294967295 → i * s ≤ 4294967295 * 4294967295
@@ -103,3 +104,20 @@ module _ {A : Type 0} (x : Found) (f : ℕ → A) (a o : A) where
 
 -- what a lookup that goes on from a state is left with
 pub ruleset ofstate = (needs, there, absent, outside, state-first, state-number, state-index, state-bytes)
+
+-- `said` takes no two answers to one: what it says gives the answer back
+abbrev listBack : List ℕ → Found
+listBack [] = Absent
+listBack (p ∷ l) = At p
+
+abbrev back : Said → Found
+back (ok l) = listBack l
+back (no n p) = Outside
+
+back-said : (x : Found) → back (said x) ≡ x
+back-said (At p) = refl
+back-said Absent = refl
+back-said Outside = refl
+
+pub said-one : (x y : Found) → said x ≡ said y → x ≡ y
+said-one x y e = sym (back-said x) ∙ ap back e ∙ back-said y

@@ -1,4 +1,3 @@
 pub mod Room
 pub mod Search
 pub mod Part
-pub mod Rows

@@ -1,13 +1,19 @@
 -- What a lookup follows in a room, which may be of any length and hold any numbers (document 01, "Refusals by number", 8 and 9).
 -- Below, w is the room, and s and e are where a section starts and ends. Assumes nothing.
 use Prim.Native.Nat.{ℕ, _+_, _*_}
-use mathlib.Core.List.{List}
+use mathlib.Core.List.{List, [], _∷_}
 use lib.ListN.{length, getD}
 use lib.Dec.{ltb, leb}
-use Rattle.refusal.specs.Said.{Said, no, STATE, NOT-TABLE}
+use Rattle.refusal.specs.Said.{Said, ok, no, STATE, NOT-TABLE}
 use Rattle.refusal.specs.Lists.{pick}
 use Rattle.room_read.specs.declared.Found.{Found}
 use Rattle.room_read.specs.declared.Found.the-variants.{At, Absent, Outside}
+
+-- a record's place; that there is no such record; or a refusal
+abbrev pub said : Found → Said
+said (At p) = ok (p ∷ [])
+said Absent = ok []
+said Outside = no NOT-TABLE 0
 
 -- the section lies in the room, or "a number followed leads outside the room"
 abbrev pub spanned : {A : Type 0} → List ℕ → ℕ → ℕ → A → A → A
@@ -24,16 +30,19 @@ recordIn w s e size i = spanned w s e (placed s e (getD w s 0) size i) Outside
 abbrev pub within : ℕ → ℕ → ℕ → Found
 within s e p = pick (ltb s p) (pick (ltb p e) (At p) Outside) Outside
 
--- record i of a section whose records vary in length: its place is number i of the list at `list`
+-- the place that is number i of the list at `list`
+abbrev pub numbered : List ℕ → ℕ → ℕ → ℕ → ℕ → Found
+numbered w s e list i = pick (ltb (list + i) (length w)) (within s e (getD w (list + i) 0)) Outside
+
+-- record i of a section whose records vary in length, by its place in that list
 unfoldable pub listedIn : List ℕ → ℕ → ℕ → ℕ → ℕ → Found
-listedIn w s e list i =
-    spanned w s e (pick (ltb i (getD w s 0)) (pick (ltb (list + i) (length w)) (within s e (getD w (list + i) 0)) Outside) Absent) Outside
+listedIn w s e list i = spanned w s e (pick (ltb i (getD w s 0)) (numbered w s e list i) Absent) Outside
 
 -- section k starts where number k of the room says, and ends where the next number says
 abbrev pub recordAt : List ℕ → ℕ → ℕ → ℕ → Found
 recordAt w k size i = pick (ltb 8 (length w)) (recordIn w (getD w k 0) (getD w (k + 1) 0) size i) Outside
 
--- "3. states: ascii row, wide row, EOF target, accept index"
+-- "states: ascii row, wide row, EOF target (at most 65535), accept index or NONE"
 unfoldable pub stateAt : List ℕ → ℕ → Found
 stateAt w i = recordAt w 2 4 i
 

@@ -1,11 +1,18 @@
 -- The search of a row of ranges, of wide and escape rows alike (document 01, "Lookups"). Assumes nothing.
 use Prim.Native.Nat.{ℕ, zero, suc, _+_, _*_}
-use mathlib.Core.List.{List}
+use mathlib.Core.List.{List, [], _∷_}
 use lib.ListN.{length, getD}
 use lib.Dec.{ltb, leb}
+use Rattle.refusal.specs.Said.{Said, ok, no, NOT-TABLE}
 use Rattle.refusal.specs.Lists.{pick}
 use Rattle.room_read.specs.declared.Hit.{Hit}
 use Rattle.room_read.specs.declared.Hit.the-variants.{Third, Gap, Outside}
+
+-- the third number of the range that is chosen; that none is; or a refusal
+abbrev pub said : Hit → Said
+said (Third t) = ok (t ∷ [])
+said Gap = ok []
+said Outside = no NOT-TABLE 0
 
 -- "read to the first range whose high is at least the symbol; its target if low is at most the symbol": of n ranges from `at`, each low, high and a third number
 unfoldable pub found : List ℕ → ℕ → ℕ → ℕ → Hit

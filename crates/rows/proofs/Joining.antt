@@ -1,24 +1,26 @@
--- The laws of the loop that joins: what is left, joined to the range that may still grow, gives what all of it gives. w is the buffer's numbers. Assumes nothing.
-use Prim.Native.Nat.{ℕ, zero, suc, _+_, _*_, _-_, _≤_, _<_}
-use mathlib.Core.Path.{_≡_, refl, sym, ap, _∙_}
+-- The laws of the loop that joins: what is left, joined to the range that may still grow, gives what all of it gives. Assumes nothing.
+use Prim.Native.Nat.{ℕ, suc, _+_, _*_, _-_, _≤_, _<_, max}
+use mathlib.Core.Path.{_≡_, refl, sym, ap, ap₂, subst, _∙_}
 use mathlib.Core.Logic.{⊎-elim}
-use mathlib.Core.Bool.{Bool, true, false, _&&_}
+use mathlib.Core.Bool.{Bool, true, false, _&&_, _||_}
 use mathlib.Core.List.{List, [], _∷_, _++_}
-use native.Mathlib.Nat.{add-zero, not-suc-le-zero}
+use native.Mathlib.Nat.{add-zero}
 use native.Mathlib.Omega.{arith}
 use borrow.Author.Needs.{needs}
-use borrow.Author.Tests.{eq-eqb, ne-eqb}
-use lib.Dec.{eqb}
+use borrow.Author.Tests.{eq-eqb, ne-eqb, lt-ltb, le-ltb}
+use lib.Dec.{eqb, ltb}
 use lib.ListN.{length, getD, set, length-set}
 use Rattle.refusal.specs.Lists.{pick}
-use Rattle.table.specs.Table.{Range, each, rangeWords}
+use Rattle.table.specs.Table.{Range, each}
 use Rattle.written.specs.Over.{Put}
 use Rattle.written.proofs.Overs.{lay-none}
-use Rattle.written.proofs.Going.{Going, going-start, going-done, going-turn, put-one, put-two}
-use Rattle.row_laws.specs.Row.{Row, touches, joinTo, join, numbers}
+use Rattle.written.proofs.Going.{Going, going-start, going-done, going-turn, put-one, put-two, put-size}
+use Rattle.row_laws.specs.Row.{Row, touches, joinTo, partFrom, numbers}
 use Rattle.row_laws.proofs.Joins.{touch-or-not}
-use Rattle.row_laws.proofs.Sizes.{length-joinTo}
-use Rattle.rows.specs.Ranges.{rangeOf, rangesAt}
+use Rattle.row_laws.proofs.Sizes.{length-joinTo, length-part}
+use Rattle.rows.specs.Aimed.{rangeOf, goalOf, noGoal, firstOf, aimed, living, seen, seenWords, joined}
+use Rattle.rows.proofs.Living.{few-living}
+use Rattle.rows.proofs.Aiming.{length-aimed, aimed-turn, aimed-done, aimed-all}
 
 -- One range is written
 
@@ -43,13 +45,42 @@ module _ (n : ℕ) (d : List ℕ) (h : n + 3 ≤ length d) where
 
 pub ruleset storing = (needs, second-place, third-place, three-put)
 
--- .. unless it grows
+-- Which ranges are written, and from where on
 
-pub put-kept : (t : Bool) (xs : List ℕ) (n : ℕ) (d : List ℕ) → t ≡ true → Put (pick t [] xs) n d n d
-put-kept t xs n d e = rw e (put-none n d)
+module _ (e : Bool) where
+  module _ (high goal : ℕ) where
+    pub unseen-escape : {r : Bool} → e ≡ true → r ≡ eqb goal 4294967295 → r ≡ (ltb high (firstOf e) || eqb goal (noGoal e))
+    unseen-escape h i = let l : 0 ≤ high = omega arith in rw (h, le-ltb high 0 l) i
 
-pub put-left : (t : Bool) (xs : List ℕ) (n : ℕ) (d : List ℕ) {r : ℕ} {new : List ℕ} → t ≡ false → Put xs n d r new → Put (pick t [] xs) n d r new
-put-left t xs n d e p = rw e p
+    pub unseen-below : e ≡ false → high < 128 → true ≡ (ltb high (firstOf e) || eqb goal (noGoal e))
+    unseen-below h l = rw (h, lt-ltb high 128 l)
+
+    pub unseen-dead : {r : Bool} → e ≡ false → 128 ≤ high → r ≡ eqb goal 65535 → r ≡ (ltb high (firstOf e) || eqb goal (noGoal e))
+    unseen-dead h l i = rw (h, le-ltb high 128 l) i
+
+  module _ (low : ℕ) where
+    pub low-escape : e ≡ true → low ≡ max low (firstOf e)
+    low-escape h = rw h (omega arith)
+
+    pub low-below : e ≡ false → low < 128 → 128 ≡ max low (firstOf e)
+    low-below h l = rw h (omega arith)
+
+    pub low-over : e ≡ false → 128 ≤ low → low ≡ max low (firstOf e)
+    low-over h l = rw h (omega arith)
+
+pub ruleset seeing = (needs, unseen-escape, unseen-below, unseen-dead, low-escape, low-below, low-over)
+
+module _ (t e : Bool) (low high goal n : ℕ) (d : List ℕ) where
+  pub put-grows : t ≡ true → Put (pick t [] (seenWords e low high goal)) n d n d
+  put-grows i = rw i (put-none n d)
+
+  module _ {u : Bool} (i : t ≡ false) (j : u ≡ (ltb high (firstOf e) || eqb goal (noGoal e))) where
+    pub put-unseen : u ≡ true → Put (pick t [] (seenWords e low high goal)) n d n d
+    put-unseen k = rw (i, sym j ∙ k) (put-none n d)
+
+    pub put-seen : {x r : ℕ} {new : List ℕ} → u ≡ false → x ≡ max low (firstOf e) → Put (x ∷ high ∷ goal ∷ []) n d r new → Put (pick t [] (seenWords e low high goal)) n d r new
+    put-seen {x} {r} {new} k m p =
+        rw (i, sym j ∙ k) (subst (λ (y : ℕ). Put (y ∷ high ∷ goal ∷ []) n d r new) m p)
 
 pub pick-true : (t : Bool) (x y : ℕ) → t ≡ true → x ≡ pick t x y
 pick-true t x y e = rw e
@@ -57,7 +88,7 @@ pick-true t x y e = rw e
 pub pick-false : (t : Bool) (x y : ℕ) → t ≡ false → y ≡ pick t x y
 pick-false t x y e = rw e
 
-pub ruleset choosing = (needs, put-kept, put-left, pick-true, pick-false)
+pub ruleset choosing = (needs, put-grows, put-unseen, put-seen, pick-true, pick-false)
 
 -- The test
 
@@ -73,24 +104,7 @@ module _ (high goal next value : ℕ) where
 
 pub ruleset touching = (needs, touch-by-goal, no-touch-gap, no-touch-over)
 
--- Ranges in a buffer
-
-pub length-ranges : (w : List ℕ) (n at : ℕ) → length (rangesAt w n at) ≡ n
-unfolding rangesAt
-length-ranges w zero at = refl
-length-ranges w (suc n) at = ap suc (length-ranges w n (at + 3))
-
-pub ranges-turn : (w : List ℕ) (left here : ℕ) → 0 < left → rangesAt w left here ≡ rangeOf (getD w here 0) (getD w (here + 1) 0) (getD w (here + 2) 0) ∷ rangesAt w (left - 1) (here + 3)
-unfolding rangesAt
-ranges-turn w zero here h = absurd (not-suc-le-zero h)
-ranges-turn w (suc n) here h = let e : suc n - 1 ≡ n = omega arith in rw e
-
-pub ranges-done : (w : List ℕ) (left here : ℕ) → left ≤ 0 → rangesAt w left here ≡ []
-unfolding rangesAt
-ranges-done w zero here h = refl
-ranges-done w (suc n) here h = absurd (not-suc-le-zero h)
-
--- The numbers of joined ranges: three at least, and no more than before
+-- The numbers of a row
 
 pub length-numbers : (rs : Row) → length (numbers rs) ≡ 3 * length rs
 unfolding each
@@ -99,64 +113,122 @@ length-numbers (r ∷ rs) = omega (arith, length-numbers rs)
 
 -- One range more: it is written, unless it grows
 
-join-step : (a r : Range) (rs : Row) →
-    numbers (joinTo a (r ∷ rs)) ≡ pick (touches a r) [] (rangeWords a) ++ numbers (joinTo (rangeOf (pick (touches a r) (a .low) (r .low)) (r .high) (r .goal)) rs)
-unfolding joinTo each
-join-step a r rs =
+seen-by : (d k : ℕ) (a : Range) (rs : Row) (b c : Bool) → eqb (a .goal) d ≡ b → ltb (a .high) k ≡ c →
+    numbers (partFrom k (living d (a ∷ rs))) ≡ pick (ltb (a .high) k || eqb (a .goal) d) [] (max (a .low) k ∷ a .high ∷ a .goal ∷ []) ++ numbers (partFrom k (living d rs))
+unfolding living partFrom each
+seen-by d k a rs true true p q = rw (p, q)
+seen-by d k a rs true false p q = rw (p, q)
+seen-by d k a rs false true p q = rw (p, q)
+seen-by d k a rs false false p q = rw (p, q)
+
+seen-first : (e : Bool) (a : Range) (rs : Row) → numbers (seen e (a ∷ rs)) ≡ seenWords e (a .low) (a .high) (a .goal) ++ numbers (seen e rs)
+seen-first e a rs = seen-by (noGoal e) (firstOf e) a rs (eqb (a .goal) (noGoal e)) (ltb (a .high) (firstOf e)) refl refl
+
+seen-step : (e : Bool) (a r : Range) (rs : Row) → numbers (seen e (joinTo a (r ∷ rs))) ≡
+    pick (touches a r) [] (seenWords e (a .low) (a .high) (a .goal)) ++ numbers (seen e (joinTo (rangeOf (pick (touches a r) (a .low) (r .low)) (r .high) (r .goal)) rs))
+unfolding joinTo
+seen-step e a r rs =
     ⊎-elim
-    (λ t. rw (t .0) (ap (λ (g : ℕ). numbers (joinTo (rangeOf (a .low) (r .high) g) rs)) (t .1 .1)))
-    (λ t. rw (t .0))
+    (λ t. rw (t .0) (ap (λ (g : ℕ). numbers (seen e (joinTo (rangeOf (a .low) (r .high) g) rs))) (t .1 .1)))
+    (λ t. rw (t .0) (seen-first e a (joinTo r rs)))
     (touch-or-not a r)
 
-module _ (w : List ℕ) (left here low high goal : ℕ) where
-  abbrev rest : List ℕ
-  rest = numbers (joinTo (rangeOf low high goal) (rangesAt w left here))
+seen-none : (e : Bool) → numbers (seen e []) ≡ []
+unfolding living partFrom each
+seen-none e = refl
 
-  join-open : {t : Bool} {first : ℕ} → 0 < left → t ≡ (eqb (suc high) (getD w here 0) && eqb goal (getD w (here + 2) 0)) → first ≡ pick t low (getD w here 0) →
-      rest ≡ pick t [] (low ∷ high ∷ goal ∷ []) ++ numbers (joinTo (rangeOf first (getD w (here + 1) 0) (getD w (here + 2) 0)) (rangesAt w (left - 1) (here + 3)))
-  join-open n e f = rw (ranges-turn w left here n, f, e) (join-step _ _ _)
+seen-last : (e : Bool) (a : Range) → numbers (seen e (joinTo a [])) ≡ seenWords e (a .low) (a .high) (a .goal) ++ []
+unfolding joinTo
+seen-last e a = seen-first e a [] ∙ ap (λ (l : List ℕ). seenWords e (a .low) (a .high) (a .goal) ++ l) (seen-none e)
 
-  least : 3 ≤ length rest
-  least = omega (arith, length-numbers (joinTo (rangeOf low high goal) (rangesAt w left here)), length-joinTo (rangeOf low high goal) (rangesAt w left here) .0)
+pick-three : (b : Bool) (xs : List ℕ) → length xs ≤ 3 → length (pick b [] xs) ≤ 3
+pick-three true xs h = omega arith
+pick-three false xs h = h
 
-  pub join-fits : (d : List ℕ) → 3 * left + 3 ≤ length d → 0 + length (numbers (joinTo (rangeOf low high goal) (rangesAt w left here))) ≤ length d
-  join-fits d h =
-      omega (
-        arith,
-        length-numbers (joinTo (rangeOf low high goal) (rangesAt w left here)),
-        length-joinTo (rangeOf low high goal) (rangesAt w left here) .1,
-        length-ranges w left here,
-      )
+few-words : (e : Bool) (low high goal : ℕ) → length (seenWords e low high goal) ≤ 3
+few-words e low high goal =
+    pick-three (ltb high (firstOf e) || eqb goal (noGoal e)) (max low (firstOf e) ∷ high ∷ goal ∷ []) (omega arith)
 
-  module _ (xs : List ℕ) (k : ℕ) (old : List ℕ) (m : ℕ) (out : List ℕ) where
-    pub join-room : Going xs k old (numbers (joinTo (rangeOf low high goal) (rangesAt w left here))) m out → m + 3 ≤ length out
-    join-room g = omega (arith, g .next, g .size, g .room, least)
+-- The loop
 
-    pub join-turn : {t : Bool} {first r : ℕ} {new : List ℕ} → 0 < left → t ≡ (eqb (suc high) (getD w here 0) && eqb goal (getD w (here + 2) 0)) →
-        Put (pick t [] (low ∷ high ∷ goal ∷ [])) m out r new → first ≡ pick t low (getD w here 0) →
-        Going xs k old (numbers (joinTo (rangeOf low high goal) (rangesAt w left here))) m out →
-        Going xs k old (numbers (joinTo (rangeOf first (getD w (here + 1) 0) (getD w (here + 2) 0)) (rangesAt w (left - 1) (here + 3)))) r new
-    join-turn {t} n e p f g = going-turn xs k old _ m out (pick t [] (low ∷ high ∷ goal ∷ [])) p (rw (join-open n e f) at g)
+pub record Joining (e : Bool) (ts cs segs ps : List ℕ) (count : ℕ) (old : List ℕ) (low high goal k m : ℕ) (out : List ℕ) : Type 0 where
+  pub points : 2 * count ≤ length segs
+  pub each-place : count ≤ length ps
+  pub room : m + 3 * (count - k) + 3 ≤ length out
+  pub going : Going (numbers (joined e ts cs segs ps count)) 0 old (numbers (seen e (joinTo (rangeOf low high goal) (aimed e ts cs segs ps (count - k) k)))) m out
 
-    pub join-done : {r : ℕ} {new : List ℕ} → left ≤ 0 → Put (low ∷ high ∷ goal ∷ []) m out r new →
-        Going xs k old (numbers (joinTo (rangeOf low high goal) (rangesAt w left here))) m out → Put xs k old r new
-    unfolding joinTo each
-    join-done n p g = going-done xs k old (going-turn xs k old [] m out (low ∷ high ∷ goal ∷ []) p (rw (ranges-done w left here n) at g))
+pub few-joined : (e : Bool) (ts cs segs ps : List ℕ) (count : ℕ) → length (numbers (joined e ts cs segs ps count)) ≤ 3 * count + 3
+few-joined e ts cs segs ps count =
+    let all : Row = aimed e ts cs segs ps count 0 in
+    let row : Row = joinTo (rangeOf 0 0 (noGoal e)) all in
+    omega (
+      arith,
+      length-numbers (joined e ts cs segs ps count),
+      length-part (firstOf e) (living (noGoal e) row),
+      few-living (noGoal e) row,
+      length-joinTo (rangeOf 0 0 (noGoal e)) all .1,
+      length-aimed e ts cs segs ps count 0,
+    )
 
-pub join-start : (xs : List ℕ) (d : List ℕ) → 0 + length xs ≤ length d → Going xs 0 d xs 0 d
-join-start xs d h = going-start xs 0 d h
+module _ (e : Bool) (ts cs segs ps : List ℕ) (count : ℕ) (old : List ℕ) where
+  pub join-start : {goal : ℕ} → (2 * count ≤ length segs) × (count ≤ length ps) → 3 * count + 3 ≤ length old → goal ≡ noGoal e →
+      Joining e ts cs segs ps count old 0 0 goal 0 0 old
+  join-start {goal} w f g =
+      let same : numbers (joined e ts cs segs ps count) ≡ numbers (seen e (joinTo (rangeOf 0 0 goal) (aimed e ts cs segs ps (count - 0) 0))) =
+      ap₂ (λ (x : ℕ) (rs : Row). numbers (seen e (joinTo (rangeOf 0 0 x) rs))) (sym g) (aimed-all e ts cs segs ps count) in
+      record {
+        points = w .0;
+        each-place = w .1;
+        room = omega arith;
+        going = subst (λ (l : List ℕ). Going (numbers (joined e ts cs segs ps count)) 0 old l 0 old) same
+            (going-start (numbers (joined e ts cs segs ps count)) 0 old (omega (arith, few-joined e ts cs segs ps count)));
+      }
 
-pub ruleset joining = (needs, join-fits, join-start, join-room, join-turn, join-done)
+  module _ (low high goal k m : ℕ) (out : List ℕ) (h : Joining e ts cs segs ps count old low high goal k m out) where
+    pub join-same : length out ≡ length old
+    join-same = h .going .size
 
--- The first range is held, and the others are joined to it
+    pub join-room : m + 3 ≤ length out
+    join-room = omega (arith, h .room)
 
-pub merge-none : (w : List ℕ) (count : ℕ) (d : List ℕ) → count ≡ 0 → Put (numbers (join (rangesAt w count 0))) 0 d 0 d
-unfolding rangesAt join each
-merge-none w count d e = rw e (put-none 0 d)
+    module _ (n : k < count) where
+      pub join-place : k < length ps
+      join-place = omega (arith, h .each-place)
 
-pub merge-some : (w : List ℕ) (count : ℕ) (d : List ℕ) {r : ℕ} {new : List ℕ} → (count ≡ 0 → ⊥) →
-    Put (numbers (joinTo (rangeOf (getD w 0 0) (getD w 1 0) (getD w 2 0)) (rangesAt w (count - 1) 3))) 0 d r new → Put (numbers (join (rangesAt w count 0))) 0 d r new
-unfolding join
-merge-some w count d n p = let h : 0 < count = omega arith in rw (ranges-turn w count 0 h) p
+      pub join-low : 2 * k < length segs
+      join-low = omega (arith, h .points)
 
-pub ruleset merging = (needs, merge-none, merge-some)
+      pub join-high : 2 * k + 1 < length segs
+      join-high = omega (arith, h .points)
+
+      pub join-turn : {value first r : ℕ} {t : Bool} {new : List ℕ} → value ≡ goalOf e ts cs (getD ps k 0) → t ≡ (eqb (suc high) (getD segs (2 * k) 0) && eqb goal value) →
+          Put (pick t [] (seenWords e low high goal)) m out r new → first ≡ pick t low (getD segs (2 * k) 0) →
+          Joining e ts cs segs ps count old first (getD segs (2 * k + 1) 0) value (k + 1) r new
+      join-turn {value} {first} {r} {t} {new} v i p f =
+          let next : Range = rangeOf (getD segs (2 * k) 0) (getD segs (2 * k + 1) 0) value in
+          let rest : Row = aimed e ts cs segs ps (count - (k + 1)) (k + 1) in
+          let is : numbers (seen e (joinTo (rangeOf low high goal) (aimed e ts cs segs ps (count - k) k))) ≡
+          pick t [] (seenWords e low high goal) ++ numbers (seen e (joinTo (rangeOf first (getD segs (2 * k + 1) 0) value) rest)) =
+          ap (λ (rs : Row). numbers (seen e (joinTo (rangeOf low high goal) rs)))
+          (aimed-turn e ts cs segs ps count k n ∙ ap {B = Row} (λ (x : ℕ). rangeOf (getD segs (2 * k) 0) (getD segs (2 * k + 1) 0) x ∷ rest) (sym v))
+          ∙ seen-step e (rangeOf low high goal) next rest
+          ∙ ap (λ (b : Bool). pick b [] (seenWords e low high goal) ++ numbers (seen e (joinTo (rangeOf (pick b low (getD segs (2 * k) 0)) (getD segs (2 * k + 1) 0) value) rest))) (sym i)
+          ∙ ap (λ (x : ℕ). pick t [] (seenWords e low high goal) ++ numbers (seen e (joinTo (rangeOf x (getD segs (2 * k + 1) 0) value) rest))) (sym f) in
+          record {
+            points = h .points;
+            each-place = h .each-place;
+            room = omega (arith, h .room, p .next, pick-three t (seenWords e low high goal) (few-words e low high goal), put-size p);
+            going = going-turn (numbers (joined e ts cs segs ps count)) 0 old (numbers (seen e (joinTo (rangeOf first (getD segs (2 * k + 1) 0) value) rest))) m out
+                (pick t [] (seenWords e low high goal)) p
+                (subst (λ (l : List ℕ). Going (numbers (joined e ts cs segs ps count)) 0 old l m out) is (h .going));
+          }
+
+    pub join-done : {r : ℕ} {new : List ℕ} → count ≤ k → Put (seenWords e low high goal) m out r new → Put (numbers (joined e ts cs segs ps count)) 0 old r new
+    join-done n p =
+        let is : numbers (seen e (joinTo (rangeOf low high goal) (aimed e ts cs segs ps (count - k) k))) ≡ seenWords e low high goal ++ [] =
+        ap (λ (rs : Row). numbers (seen e (joinTo (rangeOf low high goal) rs))) (aimed-done e ts cs segs ps count k n) ∙ seen-last e (rangeOf low high goal) in
+        going-done (numbers (joined e ts cs segs ps count)) 0 old
+        (going-turn (numbers (joined e ts cs segs ps count)) 0 old [] m out (seenWords e low high goal) p
+        (subst (λ (l : List ℕ). Going (numbers (joined e ts cs segs ps count)) 0 old l m out) is (h .going)))
+
+pub ruleset joining = (needs, join-start, join-same, join-room, join-place, join-low, join-high, join-turn, join-done)

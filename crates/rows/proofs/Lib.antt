@@ -1,5 +1,5 @@
+pub mod Living
+pub mod Aiming
 pub mod Joining
 pub mod Parting
-pub mod Stands
-pub mod Keeping
 pub mod Building

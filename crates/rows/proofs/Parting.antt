@@ -1,20 +1,22 @@
--- The laws of the loops that part a row at 128. w is the buffer's numbers. Assumes nothing.
-use Prim.Native.Nat.{ℕ, zero, suc, _+_, _*_, _-_, _≤_, _<_, min, max}
+-- The laws of the loop that writes the ascii targets. Assumes nothing.
+use Prim.Native.Nat.{ℕ, zero, suc, _+_, _*_, _-_, _≤_, _<_, min}
 use mathlib.Core.Path.{_≡_, refl, sym, ap, ap₂, subst, _∙_}
+use mathlib.Core.Bool.{false}
 use mathlib.Core.List.{List, [], _∷_, _++_, append-nil, append-assoc}
 use native.Mathlib.Omega.{arith}
 use borrow.Author.Needs.{needs}
-use borrow.Author.Tests.{lt-ltb, le-ltb}
 use lib.ListN.{length, getD, set, replicate, length-append, length-replicate}
-use Rattle.table.specs.Table.{Range, each}
+use Rattle.refusal.specs.Said.{Said, ok}
+use Rattle.table.specs.Table.{Range}
 use Rattle.lookup_laws.specs.Looks.{goalAt}
 use Rattle.written.specs.Over.{Put}
 use Rattle.written.proofs.Going.{Going, going-start, going-done, going-turn, going-put, going-place, put-size}
-use Rattle.row_laws.specs.Row.{Row, DEAD, Sorted, Each, joinTo, join, cutTo, partFrom, values, numbers, asciiPart, widePart}
+use Rattle.row_laws.specs.Row.{Row, DEAD, Sorted, values, numbers, asciiPart}
 use Rattle.row_laws.proofs.Searches.{look-hit, look-gap, look-past, sorted-weaken}
 use Rattle.row_laws.proofs.Parts.{length-values}
-use Rattle.rows.specs.Ranges.{rangeOf, rangesAt, TargetRow, targetsOf, Split}
-use Rattle.rows.proofs.Joining.{put-none, ranges-turn, ranges-done}
+use Rattle.rows.specs.declared.Rows.the-variants.{Built}
+use Rattle.rows.specs.Aimed.{rangeOf, aimed, targetsOf, Split, Filled}
+use Rattle.rows.proofs.Aiming.{aimed-turn, aimed-done, aimed-all}
 
 -- One number, many times
 
@@ -43,7 +45,7 @@ pub ruleset filling = (needs, fill-start, fill-place, fill-turn, fill-done)
 -- Two of them, for one range
 
 module _ (n low high goal : ℕ) (d : List ℕ) where
-  module _ {e m f : ℕ} {new : List ℕ} (o : (n ≤ min low 128) × (low ≤ high)) (h : (128 ≤ length d) × (goal ≤ 65535)) (p : e ≡ min low 128) (k : Put (replicate (e - n) DEAD) n d m new)
+  module _ {e m f : ℕ} {new : List ℕ} (o : (n ≤ min low 128) × (low ≤ high)) (h : 128 ≤ length d) (p : e ≡ min low 128) (k : Put (replicate (e - n) DEAD) n d m new)
       (q : f ≡ min (suc high) 128) where
     pub second-order : m ≤ f
     second-order = omega (arith, k .next, length-replicate (e - n) DEAD)
@@ -51,19 +53,18 @@ module _ (n low high goal : ℕ) (d : List ℕ) where
     pub second-fits : f ≤ length new
     second-fits = let l : length new ≡ length d = put-size k in omega arith
 
-  pub two-fills : {e m f g r : ℕ} {new last : List ℕ} → (n ≤ min low 128) × (low ≤ high) → (128 ≤ length d) × (goal ≤ 65535) → e ≡ min low 128 →
-      Put (replicate (e - n) DEAD) n d m new → f ≡ min (suc high) 128 → g ≡ goal → Put (replicate (f - m) g) m new r last → Put (targetsOf n low high goal) n d r last
-  unfolding targetsOf
-  two-fills {e} {m} {f} {g} {r} {new} {last} o h p k q u v =
-      let s : m ≡ min low 128 = omega (arith, k .next, length-replicate (e - n) DEAD) in
-      let a : List ℕ = replicate (min low 128 - n) DEAD in
-      let b : List ℕ = replicate (min (suc high) 128 - min low 128) goal in
-      let k′ : Put a n d m new = rw p at k in
-      let v′ : Put b m new r last = subst (λ x. Put (replicate (min (suc high) 128 - x) goal) m new r last) s (subst (λ x. Put (replicate (x - m) goal) m new r last) q (subst (λ x. Put (replicate (f - m) x) m new r last) u v)) in
-      let fits : n + length (a ++ b) ≤ length d =
-      omega (arith, length-append a b, length-replicate (min low 128 - n) DEAD, length-replicate (min (suc high) 128 - min low 128) goal) in
-      let z : b ≡ b ++ [] = sym (append-nil b) in
-      going-done (a ++ b) n d (going-turn (a ++ b) n d [] m new b v′ (subst (λ x. Going (a ++ b) n d x m new) z (going-turn (a ++ b) n d b n d a k′ (going-start (a ++ b) n d fits))))
+    pub two-fills : {r : ℕ} {last : List ℕ} → Put (replicate (f - m) goal) m new r last → Put (targetsOf n low high goal) n d r last
+    unfolding targetsOf
+    two-fills {r} {last} v =
+        let s : m ≡ min low 128 = omega (arith, k .next, length-replicate (e - n) DEAD) in
+        let a : List ℕ = replicate (min low 128 - n) DEAD in
+        let b : List ℕ = replicate (min (suc high) 128 - min low 128) goal in
+        let k′ : Put a n d m new = rw p at k in
+        let v′ : Put b m new r last = subst (λ x. Put (replicate (min (suc high) 128 - x) goal) m new r last) s (subst (λ x. Put (replicate (x - m) goal) m new r last) q v) in
+        let fits : n + length (a ++ b) ≤ length d =
+        omega (arith, length-append a b, length-replicate (min low 128 - n) DEAD, length-replicate (min (suc high) 128 - min low 128) goal) in
+        let z : b ≡ b ++ [] = sym (append-nil b) in
+        going-done (a ++ b) n d (going-turn (a ++ b) n d [] m new b v′ (subst (λ x. Going (a ++ b) n d x m new) z (going-turn (a ++ b) n d b n d a k′ (going-start (a ++ b) n d fits))))
 
 pub ruleset ranging = (needs, second-order, second-fits, two-fills)
 
@@ -80,7 +81,7 @@ values-more f m (suc a) b =
     let z : suc a + b ≡ suc (a + b) = omega arith in
     ap (values f m) z ∙ ap (λ (l : List ℕ). f m ∷ l) (values-more f (suc m) a b ∙ ap (λ (k : ℕ). values f (suc m) a ++ values f k b) e)
 
-values-same : (f g : ℕ → ℕ) (m n : ℕ) → ((p : ℕ) → m ≤ p → p < m + n → f p ≡ g p) → values f m n ≡ values g m n
+pub values-same : (f g : ℕ → ℕ) (m n : ℕ) → ((p : ℕ) → m ≤ p → p < m + n → f p ≡ g p) → values f m n ≡ values g m n
 unfolding values
 values-same f g m zero h = refl
 values-same f g m (suc n) h = ap₂ {C = List ℕ} (λ x l. x ∷ l) (h m (omega arith) (omega arith)) (values-same f g (suc m) n (λ p l k. h p (omega arith) (omega arith)))
@@ -122,157 +123,109 @@ length-targets n low high goal h l =
       length-replicate (min (suc high) 128 - min low 128) goal,
     )
 
--- The loop over ranges: the targets of those that are left, from m on, give what all of them give
+-- The loop over segments: the targets of those that are left, from m on, give what all of them give
 
-pub record Filling (w : List ℕ) (count : ℕ) (old : List ℕ) (left here m : ℕ) (out : List ℕ) : Type 0 where
-  pub within : here + 3 * left ≤ length w
+pub record Filling (ts segs ps : List ℕ) (count : ℕ) (old : List ℕ) (k m : ℕ) (out : List ℕ) : Type 0 where
+  pub points : 2 * count ≤ length segs
+  pub each-place : count ≤ length ps
   pub fits : 128 ≤ length out
   pub most : m ≤ 128
-  pub order : Sorted m (rangesAt w left here)
-  pub targets : Each (λ r. r .goal ≤ 65535) (rangesAt w left here)
-  pub going : Going (asciiPart (rangesAt w count 0)) 0 old (values (goalAt DEAD (rangesAt w left here)) m (128 - m)) m out
+  pub order : Sorted m (aimed false ts [] segs ps (count - k) k)
+  pub going : Going (asciiPart (aimed false ts [] segs ps count 0)) 0 old (values (goalAt DEAD (aimed false ts [] segs ps (count - k) k)) m (128 - m)) m out
 
-module _ (w : List ℕ) (count : ℕ) (old : List ℕ) where
-  pub ascii-start : 3 * count ≤ length w → 128 ≤ length old → TargetRow (rangesAt w count 0) → Filling w count old count 0 0 old
-  ascii-start h l g =
+module _ (ts segs ps : List ℕ) (count : ℕ) (old : List ℕ) where
+  abbrev all : List ℕ
+  all = asciiPart (aimed false ts [] segs ps count 0)
+
+  pub ascii-start : (2 * count ≤ length segs) × (count ≤ length ps) → 128 ≤ length old → Sorted 0 (aimed false ts [] segs ps count 0) → Filling ts segs ps count old 0 0 old
+  ascii-start w l o =
+      let same : aimed false ts [] segs ps count 0 ≡ aimed false ts [] segs ps (count - 0) 0 = aimed-all false ts [] segs ps count in
       record {
-        within = omega arith;
+        points = w .0;
+        each-place = w .1;
         fits = l;
         most = omega arith;
-        order = g .order;
-        targets = g .targets;
-        going = going-start (asciiPart (rangesAt w count 0)) 0 old (omega (arith, length-values (goalAt DEAD (rangesAt w count 0)) 0 128));
+        order = subst (Sorted 0) same o;
+        going = subst (λ (rs : Row). Going all 0 old (values (goalAt DEAD rs) 0 128) 0 old) same
+            (going-start all 0 old (omega (arith, length-values (goalAt DEAD (aimed false ts [] segs ps count 0)) 0 128)));
       }
 
-  module _ (left here m : ℕ) (out : List ℕ) where
-    abbrev low : ℕ
-    low = getD w here 0
+  module _ (k m : ℕ) (out : List ℕ) (h : Filling ts segs ps count old k m out) where
+    pub ascii-same : length out ≡ length old
+    ascii-same = h .going .size
 
-    abbrev high : ℕ
-    high = getD w (here + 1) 0
+    pub ascii-fits : 128 ≤ length out
+    ascii-fits = h .fits
 
-    abbrev goal : ℕ
-    goal = getD w (here + 2) 0
+    pub ascii-most : m ≤ 128
+    ascii-most = h .most
 
-    module _ (n : 0 < left) (k : Filling w count old left here m out) where
-      opened : Sorted m (rangeOf low high goal ∷ rangesAt w (left - 1) (here + 3))
-      opened = subst (Sorted m) (ranges-turn w left here n) (k .order)
+    module _ (n : k < count) where
+      abbrev low : ℕ
+      low = getD segs (2 * k) 0
 
-      goals : Each (λ r. r .goal ≤ 65535) (rangeOf low high goal ∷ rangesAt w (left - 1) (here + 3))
-      goals = subst (Each (λ r. r .goal ≤ 65535)) (ranges-turn w left here n) (k .targets)
+      abbrev high : ℕ
+      high = getD segs (2 * k + 1) 0
 
-      pub ascii-low : m ≤ min (getD w here 0) 128
-      ascii-low = omega (arith, opened .0, k .most)
+      abbrev goal : ℕ
+      goal = getD ts (getD ps k 0) DEAD
 
-      pub ascii-high : getD w here 0 ≤ getD w (here + 1) 0
+      abbrev rest : Row
+      rest = aimed false ts [] segs ps (count - (k + 1)) (k + 1)
+
+      opened : Sorted m (rangeOf low high goal ∷ rest)
+      opened = subst (Sorted m) (aimed-turn false ts [] segs ps count k n) (h .order)
+
+      pub ascii-place : k < length ps
+      ascii-place = omega (arith, h .each-place)
+
+      pub ascii-first : 2 * k < length segs
+      ascii-first = omega (arith, h .points)
+
+      pub ascii-second : 2 * k + 1 < length segs
+      ascii-second = omega (arith, h .points)
+
+      pub ascii-low : m ≤ min (getD segs (2 * k) 0) 128
+      ascii-low = omega (arith, opened .0, h .most)
+
+      pub ascii-high : getD segs (2 * k) 0 ≤ getD segs (2 * k + 1) 0
       ascii-high = opened .1
 
-      pub ascii-goal : getD w (here + 2) 0 ≤ 65535
-      ascii-goal = goals .0
-
-      pub ascii-turn : {r : ℕ} {new : List ℕ} → Put (targetsOf m (getD w here 0) (getD w (here + 1) 0) (getD w (here + 2) 0)) m out r new → Filling w count old (left - 1) (here + 3) r new
-      ascii-turn {r} {new} p =
+      pub ascii-turn : {x r : ℕ} {new : List ℕ} → x ≡ getD ts (getD ps k 0) 65535 → Put (targetsOf m (getD segs (2 * k) 0) (getD segs (2 * k + 1) 0) x) m out r new →
+          Filling ts segs ps count old (k + 1) r new
+      ascii-turn {x} {r} {new} i q =
+          let p : Put (targetsOf m low high goal) m out r new = subst (λ (y : ℕ). Put (targetsOf m low high y) m out r new) i q in
           let e : r ≡ min (suc high) 128 = p .next ∙ length-targets m low high goal ascii-low ascii-high in
-          let is : values (goalAt DEAD (rangesAt w left here)) m (128 - m) ≡ targetsOf m low high goal ++ values (goalAt DEAD (rangesAt w (left - 1) (here + 3))) r (128 - r) =
-          ap (λ (rs : Row). values (goalAt DEAD rs) m (128 - m)) (ranges-turn w left here n)
-          ∙ ascii-open (rangeOf low high goal) (rangesAt w (left - 1) (here + 3)) m (k .most) opened
-          ∙ ap (λ (x : ℕ). targetsOf m low high goal ++ values (goalAt DEAD (rangesAt w (left - 1) (here + 3))) x (128 - x)) (sym e) in
+          let is : values (goalAt DEAD (aimed false ts [] segs ps (count - k) k)) m (128 - m) ≡ targetsOf m low high goal ++ values (goalAt DEAD rest) r (128 - r) =
+          ap (λ (rs : Row). values (goalAt DEAD rs) m (128 - m)) (aimed-turn false ts [] segs ps count k n)
+          ∙ ascii-open (rangeOf low high goal) rest m (h .most) opened
+          ∙ ap (λ (y : ℕ). targetsOf m low high goal ++ values (goalAt DEAD rest) y (128 - y)) (sym e) in
           record {
-            within = omega (arith, k .within);
-            fits = omega (arith, put-size p, k .fits);
+            points = h .points;
+            each-place = h .each-place;
+            fits = omega (arith, put-size p, h .fits);
             most = omega arith;
-            order = sorted-weaken (suc high) r (rangesAt w (left - 1) (here + 3)) (omega arith) (opened .2);
-            targets = goals .1;
-            going = going-turn (asciiPart (rangesAt w count 0)) 0 old (values (goalAt DEAD (rangesAt w (left - 1) (here + 3))) r (128 - r)) m out (targetsOf m low high goal) p
-                (subst (λ x. Going (asciiPart (rangesAt w count 0)) 0 old x m out) is (k .going));
+            order = sorted-weaken (suc high) r rest (omega arith) (opened .2);
+            going = going-turn all 0 old (values (goalAt DEAD rest) r (128 - r)) m out (targetsOf m low high goal) p
+                (subst (λ (y : List ℕ). Going all 0 old y m out) is (h .going));
           }
 
-    pub ascii-done : {r : ℕ} {new : List ℕ} → left ≤ 0 → Filling w count old left here m out → Put (replicate (128 - m) DEAD) m out r new →
-        Put (asciiPart (rangesAt w count 0)) 0 old r new
+    pub ascii-done : {r : ℕ} {new : List ℕ} → count ≤ k → Put (replicate (128 - m) DEAD) m out r new → Put (asciiPart (aimed false ts [] segs ps count 0)) 0 old r new
     unfolding goalAt
-    ascii-done n k p =
-        let is : values (goalAt DEAD (rangesAt w left here)) m (128 - m) ≡ replicate (128 - m) DEAD ++ [] =
-        ap (λ (rs : Row). values (goalAt DEAD rs) m (128 - m)) (ranges-done w left here n)
+    ascii-done n p =
+        let is : values (goalAt DEAD (aimed false ts [] segs ps (count - k) k)) m (128 - m) ≡ replicate (128 - m) DEAD ++ [] =
+        ap (λ (rs : Row). values (goalAt DEAD rs) m (128 - m)) (aimed-done false ts [] segs ps count k n)
         ∙ values-one (goalAt DEAD []) DEAD m (128 - m) (λ p l h. refl)
         ∙ sym (append-nil (replicate (128 - m) DEAD)) in
-        going-done (asciiPart (rangesAt w count 0)) 0 old
-        (going-turn (asciiPart (rangesAt w count 0)) 0 old [] m out (replicate (128 - m) DEAD) p (subst (λ x. Going (asciiPart (rangesAt w count 0)) 0 old x m out) is (k .going)))
+        going-done all 0 old (going-turn all 0 old [] m out (replicate (128 - m) DEAD) p (subst (λ (y : List ℕ). Going all 0 old y m out) is (h .going)))
 
-pub ruleset targeting = (needs, ascii-start, ascii-low, ascii-high, ascii-goal, ascii-turn, ascii-done)
+pub ruleset targeting = (needs, ascii-start, ascii-same, ascii-fits, ascii-most, ascii-place, ascii-first, ascii-second, ascii-low, ascii-high, ascii-turn, ascii-done)
 
--- The wide row. Ranges that end before 128 are passed over: those that are left have the same part from 128 on
+-- The rows stand in their buffers
 
-part-past : (r : Range) (rs : Row) → r .high < 128 → partFrom 128 (r ∷ rs) ≡ partFrom 128 rs
-unfolding partFrom
-part-past r rs h = rw (lt-ltb (r .high) 128 h)
-
-part-whole : (from k : ℕ) (rs : Row) → k ≤ from → Sorted from rs → partFrom k rs ≡ rs
-unfolding partFrom
-part-whole from k [] h s = refl
-part-whole from k (r ∷ rs) h s =
-    let e : max (r .low) k ≡ r .low = omega arith in
-    let l : k ≤ r .high = omega arith in
-    rw (le-ltb (r .high) k l, e) (ap {B = Row} (λ x. r ∷ x) (part-whole (suc (r .high)) k rs (omega arith) (s .2)))
-
-part-here : (r : Range) (rs : Row) → 128 ≤ r .high → Sorted 0 (r ∷ rs) → partFrom 128 (r ∷ rs) ≡ cutTo 128 r ∷ rs
-unfolding partFrom
-part-here r rs h s = rw (le-ltb (r .high) 128 h) (ap {B = Row} (λ x. cutTo 128 r ∷ x) (part-whole (suc (r .high)) 128 rs (omega arith) (s .2)))
-
-pub record Passing (w : List ℕ) (count : ℕ) (old : List ℕ) (left here : ℕ) (out : List ℕ) : Type 0 where
-  pub within : here + 3 * left ≤ length w
-  pub fewer : left ≤ count
-  pub order : Sorted 0 (rangesAt w left here)
-  pub same : partFrom 128 (rangesAt w left here) ≡ partFrom 128 (rangesAt w count 0)
-  pub kept : out ≡ old
-  pub size : length out ≡ length old
-  pub fits : 3 * count ≤ length out
-
-module _ (w : List ℕ) (count : ℕ) (old : List ℕ) where
-  pub wide-start : 3 * count ≤ length w → 3 * count ≤ length old → TargetRow (rangesAt w count 0) → Passing w count old count 0 old
-  wide-start h l g = record { within = omega arith; fewer = omega arith; order = g .order; same = refl; kept = refl; size = refl; fits = l }
-
-  module _ (left here : ℕ) (out : List ℕ) (k : Passing w count old left here out) where
-    abbrev first : Range
-    first = rangeOf (getD w here 0) (getD w (here + 1) 0) (getD w (here + 2) 0)
-
-    wide-open : 0 < left → Sorted 0 (first ∷ rangesAt w (left - 1) (here + 3))
-    wide-open n = subst (Sorted 0) (ranges-turn w left here n) (k .order)
-
-    pub wide-turn : 0 < left → getD w (here + 1) 0 < 128 → Passing w count old (left - 1) (here + 3) out
-    wide-turn n h =
-        record {
-          within = omega (arith, k .within);
-          fewer = omega (arith, k .fewer);
-          order = sorted-weaken (suc (getD w (here + 1) 0)) 0 (rangesAt w (left - 1) (here + 3)) (omega arith) (wide-open n .2);
-          same = sym (part-past first (rangesAt w (left - 1) (here + 3)) h) ∙ ap (partFrom 128) (sym (ranges-turn w left here n)) ∙ k .same;
-          kept = k .kept;
-          size = k .size;
-          fits = k .fits;
-        }
-
-    pub wide-hit : {low r : ℕ} {new : List ℕ} → 0 < left → 128 ≤ getD w (here + 1) 0 → low ≡ max (getD w here 0) 128 →
-        Put (numbers (joinTo (rangeOf low (getD w (here + 1) 0) (getD w (here + 2) 0)) (rangesAt w (left - 1) (here + 3)))) 0 out r new →
-        Put (numbers (widePart (rangesAt w count 0))) 0 old r new
-    unfolding join
-    wide-hit {low} {r} {new} n h e p =
-        let is : partFrom 128 (rangesAt w count 0) ≡ rangeOf low (getD w (here + 1) 0) (getD w (here + 2) 0) ∷ rangesAt w (left - 1) (here + 3) =
-        sym (k .same)
-        ∙ ap (partFrom 128) (ranges-turn w left here n)
-        ∙ part-here first (rangesAt w (left - 1) (here + 3)) h (wide-open n)
-        ∙ ap {B = Row} (λ x. rangeOf x (getD w (here + 1) 0) (getD w (here + 2) 0) ∷ rangesAt w (left - 1) (here + 3)) (sym e) in
-        rw (is, ← k .kept) p
-
-    pub wide-done : left ≤ 0 → Put (numbers (widePart (rangesAt w count 0))) 0 old 0 out
-    unfolding join each partFrom
-    wide-done n =
-        let is : partFrom 128 (rangesAt w count 0) ≡ [] = sym (k .same) ∙ ap (partFrom 128) (ranges-done w left here n) in
-        rw (is, k .kept) (put-none 0 old)
-
-pub ruleset widening = (needs, wide-start, wide-turn, wide-hit, wide-done)
-
--- Both
-
-pub split-both : (rs : Row) (ascii wide : List ℕ) {r n : ℕ} {ascii′ wide′ : List ℕ} → Put (asciiPart rs) 0 ascii r ascii′ → Put (numbers (widePart rs)) 0 wide n wide′ → Split rs ascii ascii′ wide n wide′
-split-both rs ascii wide p q = record { narrow = p .is; broad = q }
-
-pub ruleset splitting = (needs, split-both)
+pub rows-filled : (ts ws es : Row) {ascii ascii′ wide wide′ escape escape′ : List ℕ} {n m : ℕ} → Split ts ws ascii ascii′ wide n wide′ → Put (numbers es) 0 escape m escape′ →
+    Filled (Built n m) ts ws es ascii ascii′ wide wide′ escape escape′
+rows-filled ts ws es {n = n} {m = m} s p =
+    let a : n ≡ length (numbers ws) = omega (arith, s .broad .next) in
+    let b : m ≡ length (numbers es) = omega (arith, p .next) in
+    record { says = ap₂ {C = Said} (λ x y. ok (x ∷ y ∷ [])) a b; narrow = s .narrow; broad = s .broad .is; escapes = p .is }

@@ -1,4 +1,4 @@
-// Index rule 9: the contexts of a continuation refer only below themselves, and its configs only to contexts that it has.
+// Index rule 9: the contexts of a continuation refer only below themselves, and the context of a config is at most their count (0 is none).
 // It works on the words and the places of the sections' counts; a word past the end is 0, so every function takes any place.
 ghost use mathlib.Core.Path.{_≡_};
 ghost use Prim.Native.Nat.{_+_, _<_, _≤_};

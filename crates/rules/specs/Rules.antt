@@ -19,7 +19,7 @@ use Rattle.words.specs.Records.{modeAt, stateAt, runAt, asciiAt, wideAt, escape
 
 -- Walks
 
--- on from where a record ends; where there is no record, the test fails
+-- on from where a record ends; where its reader refuses, the test fails
 unfoldable pub everyFrom : Place → (ℕ → Bool) → Bool
 everyFrom (Next p) k = k p
 everyFrom (Refused r) k = false

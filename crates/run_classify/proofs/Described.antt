@@ -13,7 +13,7 @@ use Rattle.refusal.specs.Said.{FIELD}
 use Rattle.refusal.specs.Lists.{pick, some}
 use Rattle.ascii_range.specs.declared.AsciiRange.{AsciiRange}
 use Rattle.ascii_range.specs.Ranges.{loopsAt, exitsAt, rangesFrom, outside, upToFour, listed}
-use Rattle.ascii_range.proofs.Maximal.{passing, passing-in, ranges-hold}
+use Rattle.ascii_range.proofs.Maximal.{passing, passing-in, passing-behind, ranges-hold}
 use Rattle.ascii_run.specs.declared.AsciiRun.{AsciiRun}
 use Rattle.ascii_run.specs.declared.AsciiRun.the-variants.{None}
 use Rattle.ascii_run.specs.declared.Run.{Run}
@@ -21,7 +21,7 @@ use Rattle.ascii_run.specs.declared.Answered.the-variants.{Ran}
 use Rattle.ascii_run.specs.declared.RunAnswer.{RunAnswer}
 use Rattle.ascii_run.specs.Shape.{Shape, none, any, until, ranges, shape, held, run, refused, Gives}
 use Rattle.ascii_run.specs.Classify.{exitsFrom, byRanges, byExits, classification, classified}
-use Rattle.ascii_run.specs.Scan.{stops, skipped, skippedSaid, scanSaid}
+use Rattle.ascii_run.specs.Scan.{stops, stopsHigh, skipped, skippedSaid, scanSaid}
 use Rattle.ascii_run.proofs.Answers.{given}
 
 -- The exits of a row.
@@ -118,6 +118,16 @@ classification-stops state row n b h =
     let e = exits-hold state 0 row b ∙ passing-in (exitsAt state) row b h in
     let l = ranges-hold state 0 row b ∙ passing-in (loopsAt state) row b h in
     stops-alike (exitsFrom state 0 row) (rangesFrom state 0 row) b e (ap not l) n
+
+-- "until-runs .. pass bytes of 128 and above; ranges stop there; any takes all": a row has no symbol there, so that no exit and no range is
+pub classification-high : (state : ℕ) (row : List ℕ) → length row ≡ 128 → (b : ℕ) → 128 ≤ b → stops (classification state row) b ≡ stopsHigh (classification state row)
+unfolding stops
+classification-high state row l b h =
+    let es = exitsFrom state 0 row in
+    let rs = rangesFrom state 0 row in
+    let e = exits-hold state 0 row b ∙ passing-behind (exitsAt state) 0 row b (omega arith) in
+    let o = ranges-hold state 0 row b ∙ passing-behind (loopsAt state) 0 row b (omega arith) in
+    by-shape es rs (λ s. stops s b ≡ stopsHigh s) (λ n. refl) (λ n m. e) (λ n. ap not o) refl
 
 -- where there is a run, the scan says how far it went
 pub run-said : (s : Shape) (bs : List ℕ) → (s ≡ none → ⊥) → scanSaid s bs ≡ skippedSaid (skipped s bs) bs

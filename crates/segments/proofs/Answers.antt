@@ -20,8 +20,8 @@ use Rattle.transitions.specs.Transition.{Transition}
 use Rattle.transitions.specs.Intervals.{intervals, allIntervals, total, ends, endsAll}
 use Rattle.transitions.specs.Read.{Parsed, parsed, refused, parse, isParsed, accepted}
 use Rattle.transitions.specs.Read as list
-use Rattle.transitions.specs.Ends.{parseInto, endsIn}
-use Rattle.transitions.specs.Ends as into
+use Rattle.interval_ends.specs.Ends.{parseInto, endsIn}
+use Rattle.interval_ends.specs.Ends as into
 use Rattle.transitions.proofs.Accepted.{length-ends, most-ends}
 use Rattle.segments.specs.declared.Segments.{Segments}
 use Rattle.segments.specs.declared.Segments.the-variants.{Count, Refused}

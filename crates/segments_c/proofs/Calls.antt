@@ -9,7 +9,7 @@ use Rattle.transitions.specs.declared.Transitions.{Transitions}
 use Rattle.transitions.specs.declared.Transitions.the-variants as told
 use Rattle.transitions.specs.Read.{Parsed}
 use Rattle.transitions.specs.Read as reading
-use Rattle.transitions.specs.Ends as ending
+use Rattle.interval_ends.specs.Ends as ending
 use Rattle.segments.specs.declared.Segments.{Segments}
 use Rattle.segments.specs.declared.Segments.the-variants as cut
 use Rattle.segments.specs.Answer as cutting

@@ -3,7 +3,7 @@
 ghost use mathlib.Core.Path.{_≡_};
 ghost use lib.ListN.{length};
 ghost use Rattle.transitions.specs.Read as reading;
-ghost use Rattle.transitions.specs.Ends as ending;
+ghost use Rattle.interval_ends.specs.Ends as ending;
 ghost use Rattle.segments.specs.Answer as cutting;
 ghost use Rattle.masks.specs.Masks.{matrix, distinctOf};
 ghost use Rattle.masks.specs.Answer as masking;
@@ -69,7 +69,7 @@ pub extern "C" fn lexer_dfa_read_transitions(list: &[u8]) -> CTransitions
 pub extern "C" fn lexer_dfa_read_intervals(list: &[u8], out: &mut [u32]) -> CTransitions
     ensures { λ r. ⌜ (r ≡ transitionsInC (reading.counted (ending.parseInto (length (now (out .entry))) (now (list .entry))))) × (now (out .exit) ≡ ending.endsIn (length (now (out .entry))) (ending.parseInto (length (now (out .entry))) (now (list .entry)))) ⌝ }
 {
-    transitions_in_c(transitions::read_intervals(list, out))
+    transitions_in_c(interval_ends::read_intervals(list, out))
 }
 
 fn segments_in_c(answer: Segments) -> CSegments
@@ -141,5 +141,5 @@ pub extern "C" fn lexer_dfa_distinct_masks(
 ) -> CMasks
     ensures { λ r. ⌜ DistinctInC r (length (now (segments .entry))) (now (segments .exit)) (length (now (masks .entry))) (now (masks .exit)) (length (now (distinct .entry))) (now (distinct .exit)) (masking.parseDistinct (length (now (segments .entry))) (length (now (masks .entry))) (length (now (distinct .entry))) (now (list .entry))) ⌝ }
 {
-    masks_in_c(masks::distinct_masks(list, segments, masks, distinct))
+    masks_in_c(distinct_masks::distinct_masks(list, segments, masks, distinct))
 }

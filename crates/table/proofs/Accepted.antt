@@ -14,7 +14,8 @@ use Rattle.words.specs.Parse.{refused}
 use Rattle.refusal.specs.Fixed.{tag}
 use Rattle.table.specs.Table.{Table, sectionWords, wordsOf, Fields}
 use Rattle.refusal.specs.Said.{TAG}
-use Rattle.table.specs.Whole.{sectionsAt, wholeAt, Fit}
+use Rattle.table.specs.Whole.{Fit}
+use Rattle.table.proofs.Whole.{sectionsAt, wholeAt}
 use Rattle.table.proofs.Codec.{At, Codec, start, same, on, at-length, past, word-reads, word-read, paired, mapped, of-section}
 use Rattle.table.proofs.Records.{mode, state, ascii, wide-row, accept, escape, continuation, all-always}
 use Rattle.table.proofs.Runs.{run-codec}
@@ -51,7 +52,7 @@ words-accepted t h =
     word-reads (λ x. pick (eqb x tag) (sectionsAt w 1) (refused TAG 0)) (start w) ∙ sections .complete t w 1 [] h a ∙ ap Next e
 
 -- nothing is left behind the last word
-none-left : {w rest : List ℕ} → At w (length w) rest → rest ≡ []
+pub none-left : {w rest : List ℕ} → At w (length w) rest → rest ≡ []
 none-left {rest = []} a = refl
 none-left {rest = x ∷ l} a = absurd (omega (arith, at-length a))
 

@@ -17,8 +17,8 @@ use Rattle.words.specs.Parse.{refused, andThen, word, both}
 use Rattle.layout.specs.declared.Sections.{Sections}
 use Rattle.layout.specs.declared.Sections.the-variants.{Found, Unfound}
 use Rattle.layout.specs.Layout.{unfound, onward, atEnd, fromModes, layoutOf}
-use Rattle.table.specs.Whole.{sectionsAt, wholeAt}
-use Rattle.table.specs.Fronts.{Reader}
+use Rattle.table.proofs.Whole.{sectionsAt, wholeAt}
+use Rattle.table.proofs.Ends.{Reader}
 
 -- where the layout's answer ends
 abbrev pub ended : List ℕ → Sections → Place

@@ -7,7 +7,7 @@ use mathlib.Core.Logic.{_⊎_, inl, inr}
 use Prim.Native.Nat.{ℕ, zero, suc, _+_, _-_, _≤_, _<_}
 use native.Mathlib.Omega.{arith}
 use lib.Dec.{leb, eqb}
-use lib.ListN.{length, getD, take, drop, length-append, length-drop, length-replicate, getD-replicate, take-append-drop, List·getD-append}
+use lib.ListN.{length, getD, take, drop, length-append, length-drop, length-replicate, getD-replicate, take-append-drop}
 use lib.Seq.{length-take-le, take-append-seam, take-append-add, take-at, take-take, take-add, drop-cons, getD-append-add, getD-take}
 use borrow.Author.Tests.{leb-true, leb-false, eqb-true, eqb-false, ne-eqb}
 use Rattle.refusal.specs.declared.Refusal.{Refusal}
@@ -17,13 +17,16 @@ use Rattle.refusal.specs.Lists.{pick}
 use Rattle.words.specs.declared.Place.{Place}
 use Rattle.words.specs.declared.Place.the-variants.{Next, Refused}
 use Rattle.words.specs.Parse.{refused, short, word}
+use Rattle.words.specs.Records.{runAt, contextAt}
 use Rattle.table.specs.Table.{Table, sectionWords, wordsOf, Fields}
-use Rattle.table.specs.Whole.{sectionsAt, wholeAt, Fit}
-use Rattle.table.specs.Fronts.{Begins, Unfinished, Reader, Reads, Due, Three, ThreeAt, EndsInside, Differs, WordForbidden, ThreeForbidden, Forbids, Opens}
+use Rattle.table.specs.Whole.{Fit}
+use Rattle.table.specs.Fronts.{Begins, Unfinished, ThreeAt, EndsInside, Differs, WordForbidden, ThreeForbidden, Forbids, Opens}
+use Rattle.table.proofs.Whole.{sectionsAt, wholeAt}
 use Rattle.table.proofs.Codec.{At, start, here, same, on, word-reads}
 use Rattle.table.proofs.Accepted.{sections, words-accepted, accepted-words}
-use Rattle.table.proofs.Ends.{zeros, ReadsAt, Leads, Fails, Refuses, over, inside, fault, Ends, taken, stopped}
-use Rattle.table.proofs.Fronted.{three-judged, three-short, sections-fronted}
+use Rattle.table.proofs.Ends.{Reader, zeros, ReadsAt, Leads, Fails, Refuses, over, inside, fault, Ends, taken, stopped, marked, fit-front, fit-back}
+use Rattle.table.proofs.Fronted.{Three, three-judged, three-short, SectionMarks, sections-fronted}
+use Rattle.table.proofs.Due.{ThreeDue, run-leads, context-leads, marked-due}
 
 -- The tag
 
@@ -67,9 +70,6 @@ only-whole t u more h k e =
     omega (arith, ap length e, length-append (wordsOf t) more)
 
 -- What begins a table
-
-fit-front : (l m : List ℕ) → Fit (l ++ m) → Fit l
-fit-front l m f i h = subst (λ x. x < 4294967296) (List·getD-append l m 0 i h) (f i (omega (arith, length-append l m)))
 
 fit-take : (n : ℕ) (w : List ℕ) → Fit w → Fit (take n w)
 fit-take n w f = fit-front (take n w) (drop n w) (subst Fit (sym (take-append-drop n w)) f)
@@ -119,16 +119,18 @@ not-yet u post e (t, x ∷ more, h, q) = (t, x ∷ more, h, q, omega arith)
 stands : (u post : List ℕ) → At (u ++ post) (length u) post
 stands u post = record { pre = u; whole = refl; here = refl }
 
+-- behind u, reading goes on with a part: what refuses the part refuses the whole, and with what it reads behind it u still begins a table
+record Due (part : Reader) (u : List ℕ) : Type 0 where
+  refused : (post : List ℕ) (r : Refusal) → part (u ++ post) (length u) ≡ Refused r → wholeAt (u ++ post) ≡ Refused r
+  allowed : (m : List ℕ) → Fit (u ++ m) → ReadsAt part m → Begins (u ++ m)
+
 due : (l : List ℕ) (part : Reader) → Leads sectionsAt l part → Due part (tag ∷ l)
-due l part g = record { refused = turned; allowed = λ m f r. let h = g .completes m (anywhere m r) in completed (l ++ m) (h .0) f (h .1) }
+due l part g = record { refused = turned; allowed = λ m f r. let h = g .completes m r in completed (l ++ m) (h .0) f (h .1) }
   where
     turned : (post : List ℕ) (r : Refusal) → part (tag ∷ (l ++ post)) (suc (length l)) ≡ Refused r → wholeAt (tag ∷ (l ++ post)) ≡ Refused r
     turned post r e =
         let i : 1 + length l ≡ suc (length l) = omega arith in
         whole-tag (l ++ post) ∙ g .refuses (tag ∷ (l ++ post)) 1 post r (behind-tag (l ++ post)) (ap (part (tag ∷ (l ++ post))) i ∙ e)
-
-    anywhere : (m : List ℕ) → Reads part m → ReadsAt part m
-    anywhere m r w at post a = ap (λ k. part k at) (a .whole) ∙ ap (part (a .pre ++ (m ++ post))) (sym (a .here)) ∙ r (a .pre) post ∙ ap (λ k. Next (k + length m)) (a .here)
 
 due-here : (part : Reader) (w : List ℕ) (p : ℕ) {r : Refusal} → p ≤ length w → Due part (take p w) → part w p ≡ Refused r → wholeAt w ≡ Refused r
 due-here part w p {r} h d e =
@@ -137,15 +139,20 @@ due-here part w p {r} h d e =
 
 -- Three words that are judged together
 
+three-due : (u : List ℕ) (x : ℕ) → ThreeDue u x → (part : Reader) × Three part x × Due part u
+three-due u x (inl (d, k)) = let i = run-leads u d in (runAt, inl (refl, k), subst (Due runAt) (sym (i .1)) (due (i .0) runAt (i .2)))
+three-due u x (inr d) = let i = context-leads u d in (contextAt, inr refl, subst (Due contextAt) (sym (i .1)) (due (i .0) contextAt (i .2)))
+
 -- one or two of them are SHORT
 pub three-cut : (w : List ℕ) (p : ℕ) → p < length w → length w < p + 3 → ThreeAt w p → wholeAt w ≡ short w
-three-cut w p h i (part, k, d) =
+three-cut w p h i t =
+    let d = three-due (take p w) (getD w p 0) t in
     let a = same (here w p (omega arith)) (drop-cons w p 0 h) in
-    due-here part w p (omega arith) d (three-short part (getD w p 0) k w p (drop (suc p) w) a (omega (arith, length-drop (suc p) w)))
+    due-here (d .0) w p (omega arith) (d .2) (three-short (d .0) (getD w p 0) (d .1) w p (drop (suc p) w) a (omega (arith, length-drop (suc p) w)))
 
 -- all of them are FIELD, or begin a table
 three-all : (w : List ℕ) (p : ℕ) → Fit w → p + 3 ≤ length w → ThreeAt w p → (wholeAt w ≡ refused FIELD p) ⊎ Begins (take (p + 3) w)
-three-all w p f h (part, k, d) = go (three-judged part (getD w p 0) (getD w (suc p) 0) (getD w (suc (suc p)) 0) k)
+three-all w p f h t = let d = three-due (take p w) (getD w p 0) t in go (d .0) (d .2) (three-judged (d .0) (getD w p 0) (getD w (suc p) 0) (getD w (suc (suc p)) 0) (d .1))
   where
     m : List ℕ
     m = getD w p 0 ∷ getD w (suc p) 0 ∷ getD w (suc (suc p)) 0 ∷ []
@@ -158,12 +165,12 @@ three-all w p f h (part, k, d) = go (three-judged part (getD w p 0) (getD w (suc
     front : take p w ++ m ≡ take (p + 3) w
     front = sym (take-add p 3 w ∙ ap (λ l. take p w ++ l) (ap (take 3) opened))
 
-    go : ReadsAt part m ⊎ Fails part m → (wholeAt w ≡ refused FIELD p) ⊎ Begins (take (p + 3) w)
-    go (inl g) = inr (subst Begins front (d .allowed m (subst Fit (sym front) (fit-take (p + 3) w f)) (λ pre post. g (pre ++ (m ++ post)) (length pre) post (stands pre (m ++ post)))))
-    go (inr g) = inl (due-here part w p (omega arith) d (g w p (drop (suc (suc (suc p))) w) (same (here w p (omega arith)) opened)))
+    go : (part : Reader) → Due part (take p w) → ReadsAt part m ⊎ Fails part m → (wholeAt w ≡ refused FIELD p) ⊎ Begins (take (p + 3) w)
+    go part d (inl g) = inr (subst Begins front (d .allowed m (subst Fit (sym front) (fit-take (p + 3) w f)) g))
+    go part d (inr g) = inl (due-here part w p (omega arith) d (g w p (drop (suc (suc (suc p))) w) (same (here w p (omega arith)) opened)))
 
 three-take : (w : List ℕ) (q n : ℕ) → q < n → ThreeAt w q → ThreeAt (take n w) q
-three-take w q n h (part, k, d) = (part, subst (Three part) (sym (getD-take n w q 0 h)) k, subst (Due part) (sym (take-take q n w (omega arith))) d)
+three-take w q n h t = subst (λ u. ThreeDue u (getD (take n w) q 0)) (sym (take-take q n w (omega arith))) (subst (ThreeDue (take q w)) (sym (getD-take n w q 0 h)) t)
 
 -- a word at which a front is refused is none of them
 alone : (w : List ℕ) (p q : ℕ) → Fit w → p < length w → wholeAt (take (p + 1) w) ≡ refused FIELD p → (Begins (take (p + 1) w) → ⊥) → q ≤ p → p < q + 3 → ThreeAt w q → ⊥
@@ -202,13 +209,13 @@ module _ (u post : List ℕ) (fit : Fit (u ++ post)) (some : 1 ≤ length u) (b 
   front : take (length u) (u ++ post) ≡ u
   front = take-append-seam u post
 
-  three-at : Three part (getD post 0 0) → ThreeAt (u ++ post) (length u)
+  three-at : ThreeDue u (getD post 0 0) → ThreeAt (u ++ post) (length u)
   three-at k =
       let i : length u ≡ length u + 0 = omega arith in
       let head = ap (λ n. getD (u ++ post) n 0) i ∙ getD-append-add u post 0 0 in
-      (part, subst (Three part) (sym head) k, subst (Due part) (sym front) d)
+      subst (λ v. ThreeDue v (getD (u ++ post) (length u) 0)) (sym front) (subst (ThreeDue u) (sym head) k)
 
-  refuses : Refuses part post → Judged (u ++ post) (wholeAt (u ++ post))
+  refuses : Refuses (ThreeDue u) part post → Judged (u ++ post) (wholeAt (u ++ post))
   refuses (over e s) =
       let q = d .refused post _ (s (u ++ post) (length u) (same (stands u post) e)) in
       let o : u ≡ u ++ post = sym (append-nil u) ∙ ap (λ k. u ++ k) (sym e) in
@@ -234,7 +241,7 @@ module _ (u post : List ℕ) (fit : Fit (u ++ post)) (some : 1 ≤ length u) (b 
       begins-none : (n : ℕ) → length l ≡ n → Begins (take (length u + n) (u ++ post)) → ⊥
       begins-none n i h = let v = subst Begins (cut n i) h in one-way (fails (v .1)) (ap wholeAt (sym (append-assoc u l (v .1)) ∙ v .3) ∙ words-accepted (v .0) (v .2))
 
-      why : (length l ≡ 1) ⊎ (Three part (getD post 0 0) × (length l ≡ 3)) → WordForbidden (u ++ post) (length u) ⊎ ThreeForbidden (u ++ post) (length u)
+      why : (length l ≡ 1) ⊎ (ThreeDue u (getD post 0 0) × (length l ≡ 3)) → WordForbidden (u ++ post) (length u) ⊎ ThreeForbidden (u ++ post) (length u)
       why (inl i) =
           let g : wholeAt (take (length u + 1) (u ++ post)) ≡ refused FIELD (length u) = ap wholeAt (cut 1 i ∙ ap (λ k. u ++ k) (sym (append-nil l))) ∙ fails [] in
           inl (omega (arith, long), begins-none 1 i, λ q. alone (u ++ post) (length u) q fit (omega (arith, long)) g (begins-none 1 i))
@@ -244,7 +251,7 @@ pub judged : (w : List ℕ) → Fit w → Judged w (wholeAt w)
 judged [] f = subst (Judged []) (sym whole-empty) (ends refl refl (inl (not-yet [] [] whole-empty begins-nothing)))
 judged (x ∷ r) f = tagged (eqb x tag) refl
   where
-    ended : Fit (tag ∷ r) → Ends sectionsAt r → Judged (tag ∷ r) (wholeAt (tag ∷ r))
+    ended : Fit (tag ∷ r) → Ends sectionsAt SectionMarks r → Judged (tag ∷ r) (wholeAt (tag ∷ r))
     ended g (taken l post e m) =
         let s = sections .sound (tag ∷ r) 1 (1 + length l) r g (behind-tag r) (m (tag ∷ r) 1 post (same (behind-tag r) e)) in
         let o : tag ∷ r ≡ wordsOf (s .item) ++ s .post = ap (λ k. tag ∷ k) (s .opens) in
@@ -252,13 +259,13 @@ judged (x ∷ r) f = tagged (eqb x tag) refl
     ended g (stopped l post n e m part h x) =
         let o : tag ∷ r ≡ (tag ∷ l) ++ post = ap (λ k. tag ∷ k) e in
         let i = subst Fit o g in
-        subst (λ k. Judged k (wholeAt k)) (sym o) (refuses (tag ∷ l) post i (omega arith) (completed l n (fit-front (tag ∷ l) post i) m) part (due l part h) x)
+        subst (λ k. Judged k (wholeAt k)) (sym o) (refuses (tag ∷ l) post i (omega arith) (completed l n (fit-front (tag ∷ l) post i) m) part (due l part h) (marked (marked-due l) x))
 
     tagged : (b : Bool) → eqb x tag ≡ b → Judged (x ∷ r) (wholeAt (x ∷ r))
     tagged false u = let n = eqb-false x tag u in subst (Judged (x ∷ r)) (sym (whole-differs x r n)) (differs refl refl (x, r, refl, n))
     tagged true u =
         let e : x ∷ r ≡ tag ∷ r = ap (λ k. k ∷ r) (eqb-true x tag u) in
-        subst (λ k. Judged k (wholeAt k)) (sym e) (ended (subst Fit e f) (sections-fronted .ends r))
+        subst (λ k. Judged k (wholeAt k)) (sym e) (ended (subst Fit e f) (sections-fronted .ends r (fit-back (x ∷ []) r f)))
 
 -- The other way
 

@@ -21,7 +21,7 @@ use Rattle.table.specs.Places.{statesPlace, runsPlace, asciiPlace, wideP
 use Rattle.table.specs.Rules.{Numbered, NoneOr, Good, Searchable, targets, RefersBelow, Rule1, Rule2, Rule3, Rule5, Rule6, Rule7, Rule8, Rule9}
 use Rattle.table.proofs.Codec.{At, Codec, same, on, to, at-head, Always}
 use Rattle.table.proofs.Records.{mode, state, ascii, wide-row, escape, config, continuation, all-always, or-split, or-right}
-use Rattle.table.proofs.Runs.{and-split}
+use Rattle.refusal.proofs.Lists.{and-split}
 use Rattle.table.proofs.Placed.{modes-stand, states-stand, runs-stand, ascii-stand, wide-stand, accepts-stand, escapes-stand, continuations-stand, fromStates, fromRuns, fromWide, fromAccepts, fromContinuations}
 
 -- A test tells whether a fact holds

@@ -1,3 +1,4 @@
+pub mod Whole
 pub mod Codec
 pub mod Runs
 pub mod Records
@@ -10,5 +11,6 @@ pub mod Obeyed
 pub mod Agree
 pub mod Ends
 pub mod Fronted
+pub mod Due
 pub mod Fronts
 pub mod Refusals

@@ -19,8 +19,9 @@ use Rattle.layout.specs.declared.Sections.{Sections}
 use Rattle.layout.specs.declared.Sections.the-variants.{Found}
 use Rattle.layout.specs.Layout.{unfound, onward, atEnd, fromModes, layoutOf}
 use Rattle.table.specs.Table.{Table, Fields, counted, modeWords, stateWords, runWords, asciiWords, wideWords, acceptWords, escapeWords, continuationWords, sectionWords, wordsOf}
-use Rattle.table.specs.Whole.{sectionsAt, wholeAt, Fit}
+use Rattle.table.specs.Whole.{Fit}
 use Rattle.table.specs.Places.{statesPlace, runsPlace, asciiPlace, widePlace, acceptsPlace, escapesPlace, continuationsPlace, sectionsOf}
+use Rattle.table.proofs.Whole.{sectionsAt, wholeAt}
 use Rattle.table.proofs.Codec.{At, Codec, start, same, on, at-length, past, word-reads, of-section}
 use Rattle.table.proofs.Records.{mode, state, ascii, wide-row, accept, escape, continuation, all-always}
 use Rattle.table.proofs.Runs.{run-codec}

@@ -18,8 +18,9 @@ use Rattle.layout.specs.declared.Sections.{Sections}
 use Rattle.layout.specs.declared.Sections.the-variants.{Found, Unfound}
 use Rattle.layout.specs.Layout.{said, unfound, layoutOf}
 use Rattle.table.specs.Table.{wordsOf}
-use Rattle.table.specs.Whole.{wholeAt, Fit}
+use Rattle.table.specs.Whole.{Fit}
 use Rattle.table.specs.Fronts.{EndsInside, Differs, Forbids, IsTable, Opens, Refusals}
+use Rattle.table.proofs.Whole.{wholeAt}
 use Rattle.table.proofs.Accepted.{words-accepted, accepted-words}
 use Rattle.table.proofs.Agree.{ended, closed, agree}
 use Rattle.table.proofs.Fronts.{one-way, Reason, ends, differs, forbids, judged, Judged, opens-read, differs-tag, three-cut, front-short, forbids-field}

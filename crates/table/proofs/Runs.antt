@@ -19,17 +19,12 @@ use Rattle.ascii_run.specs.declared.Run.{Run}
 use Rattle.ascii_run.specs.declared.RunWords.{RunWords}
 use Rattle.ascii_run.specs.Shape.{Shape, none, any, until, ranges, shapeOf, shape, plain, held, Got, run, refused}
 use Rattle.ascii_run.specs.Words.{orField, shortRun, kindOf, bytesOf, rangesRun, readAt, sizeOf, wordsOf}
+use Rattle.refusal.proofs.Lists.{and-split}
 use Rattle.words.specs.declared.Place.the-variants.{Next}
 use Rattle.words.specs.Records.{behind, runAt}
 use Rattle.table.specs.Table.{packed, bytes, runWords, All, InOrder, RunFields}
 use Rattle.table.specs.Whole.{Fit}
 use Rattle.table.proofs.Codec.{At, Split, Codec, here, same, on, at-length, at-head}
-
--- Tests
-
-pub and-split : (a b : Bool) → (a && b) ≡ true → (a ≡ true) × (b ≡ true)
-and-split true b e = (refl, e)
-and-split false b e = let z : _≡_ {A = ℕ} 0 1 = cc in absurd (omega arith)
 
 -- Bytes
 

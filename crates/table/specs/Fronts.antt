@@ -7,13 +7,9 @@ use lib.ListN.{length, getD, take}
 use Rattle.refusal.specs.declared.Refusal.{Refusal}
 use Rattle.refusal.specs.Said.{SHORT, TAG, FIELD, LEFT, ok}
 use Rattle.refusal.specs.Fixed.{tag}
-use Rattle.words.specs.declared.Place.{Place}
-use Rattle.words.specs.declared.Place.the-variants.{Next, Refused}
-use Rattle.words.specs.Records.{runAt, contextAt}
 use Rattle.layout.specs.declared.Sections.the-variants.{Unfound}
 use Rattle.layout.specs.Layout.{said, unfound, layoutOf}
-use Rattle.table.specs.Table.{Table, wordsOf, Fields}
-use Rattle.table.specs.Whole.{wholeAt, Fit}
+use Rattle.table.specs.Table.{Table, each, counted, modeWords, stateWords, runWords, contextWords, configWords, continuationWords, wordsOf, Fields}
 
 -- some words behind w make it the words of a table whose fields are allowed
 abbrev pub Begins : List ℕ → Type 0
@@ -23,31 +19,32 @@ Begins w = (t : Table) × (more : List ℕ) × Fields t × (w ++ more ≡ wordsO
 abbrev pub Unfinished : List ℕ → Type 0
 Unfinished w = (t : Table) × (more : List ℕ) × Fields t × (w ++ more ≡ wordsOf t) × (1 ≤ length more)
 
-abbrev pub Reader : Type 0
-Reader = List ℕ → ℕ → Place
+-- one record of a list, and those before and after it
+pub record One {A : Type 0} (xs : List A) : Type 0 where
+  pub before : List A
+  pub it : A
+  pub after : List A
+  pub all : xs ≡ before ++ (it ∷ after)
 
--- l is read as a record, wherever it stands
-abbrev pub Reads : Reader → List ℕ → Type 0
-Reads read l = (pre post : List ℕ) → read (pre ++ (l ++ post)) (length pre) ≡ Next (length pre + length l)
+-- where u ends, a run of a table is due: u is the tag, the modes, the states, the count of the runs, and the runs before it
+abbrev pub RunDue : List ℕ → Type 0
+RunDue u = (t : Table) × Fields t × (run : One (t .runs))
+    × (u ≡ tag ∷ (counted modeWords (t .modes) ++ (counted stateWords (t .states) ++ (length (t .runs) ∷ each runWords (run .before)))))
 
--- where u ends, a record is due: what refuses the record refuses the whole, and with a record behind it u still begins a table
-pub record Due (read : Reader) (u : List ℕ) : Type 0 where
-  pub refused : (post : List ℕ) (r : Refusal) → read (u ++ post) (length u) ≡ Refused r → wholeAt (u ++ post) ≡ Refused r
-  pub allowed : (l : List ℕ) → Fit (u ++ l) → Reads read l → Begins (u ++ l)
+-- where u ends, a context of a table is due: of the table's words are missing only it and the contexts after it, their configs, and the continuations after theirs
+abbrev pub ContextDue : List ℕ → Type 0
+ContextDue u = (t : Table) × Fields t × (c : One (t .continuations)) × (x : One (c .it .contexts))
+    × (u ++ (each contextWords (x .it ∷ x .after) ++ (counted configWords (c .it .configs) ++ each continuationWords (c .after))) ≡ wordsOf t)
 
--- "A kind-5 run reads its three words, and a context its three, before FIELD": the reader of such a record, of which x is the first word
-abbrev pub Three : Reader → ℕ → Type 0
-Three read x = ((read ≡ runAt) × (x % 256 ≡ 5)) ⊎ (read ≡ contextAt)
-
--- such a record is due at p, and opened by the word there
+-- "A kind-5 run reads its three words, and a context its three, before FIELD, at the first of them": such a record is due at p, and opened by the word there
 abbrev pub ThreeAt : List ℕ → ℕ → Type 0
-ThreeAt w p = (read : Reader) × Three read (getD w p 0) × Due read (take p w)
+ThreeAt w p = (RunDue (take p w) × (getD w p 0 % 256 ≡ 5)) ⊎ ContextDue (take p w)
 
--- "SHORT: the input ends inside a field or record": w begins a table and is not all of it, or ends behind one or two words of such a record
+-- "1 SHORT | the input ends inside a field or record": w begins a table and is not all of it, or ends behind one or two words of such a record
 abbrev pub EndsInside : List ℕ → Type 0
 EndsInside w = Unfinished w ⊎ ((p : ℕ) × (p < length w) × (length w < p + 3) × Begins (take p w) × ThreeAt w p)
 
--- "TAG: the first word differs"
+-- "2 TAG | the first word differs"
 abbrev pub Differs : List ℕ → Type 0
 Differs w = (x : ℕ) × (more : List ℕ) × (w ≡ x ∷ more) × (x ≡ tag → ⊥)
 
@@ -59,7 +56,7 @@ WordForbidden w p = (p < length w) × (Begins (take (p + 1) w) → ⊥) × ((q :
 abbrev pub ThreeForbidden : List ℕ → ℕ → Type 0
 ThreeForbidden w p = (p + 3 ≤ length w) × (Begins (take (p + 3) w) → ⊥) × ThreeAt w p
 
--- "FIELD: a value its field forbids": behind the tag, w begins a table up to p, and goes on so
+-- "3 FIELD | a value its field forbids": behind the tag, w begins a table up to p, and goes on so
 abbrev pub Forbids : List ℕ → ℕ → Type 0
 Forbids w p = (1 ≤ p) × Unfinished (take p w) × (WordForbidden w p ⊎ ThreeForbidden w p)
 
@@ -80,6 +77,6 @@ pub record Refusals (w : List ℕ) : Type 0 where
   pub short : (p : ℕ) → Exactly (layoutOf w ≡ unfound SHORT p) ((p ≡ length w) × EndsInside w)
   pub differs : (p : ℕ) → Exactly (layoutOf w ≡ unfound TAG p) ((p ≡ 0) × Differs w)
   pub field : (p : ℕ) → Exactly (layoutOf w ≡ unfound FIELD p) (Forbids w p)
-  -- "LEFT: words remain"
+  -- "5 LEFT | words remain"
   pub left : (p : ℕ) → Exactly (layoutOf w ≡ unfound LEFT p) ((p < length w) × Opens w p)
   pub no-other : (r : Refusal) → layoutOf w ≡ Unfound r → (r .number ≡ SHORT) ⊎ (r .number ≡ TAG) ⊎ (r .number ≡ FIELD) ⊎ (r .number ≡ LEFT)

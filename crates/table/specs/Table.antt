@@ -78,7 +78,7 @@ counted words xs = length xs ∷ each words xs
 abbrev pub modeWords : ℕ → List ℕ
 modeWords m = m ∷ []
 
--- "3. states: ascii row, wide row, EOF target, accept index or NONE"
+-- "3. states: ascii row, wide row, EOF target (at most 65535), accept index or NONE"
 abbrev pub stateWords : State → List ℕ
 stateWords s = s .ascii ∷ s .wide ∷ s .eof ∷ s .accept ∷ []
 
@@ -121,7 +121,7 @@ acceptWords x = x .rule ∷ x .consumed ∷ counted actionWords (x .actions)
 abbrev pub escapeWords : Escape → List ℕ
 escapeWords x = x .eof ∷ counted rangeWords (x .ranges)
 
--- "9. continuations: context count, contexts (kind, two words), config count, configs (state, alternative rule or NONE, two flags, context, action count, actions)"
+-- "9. continuations: context count, contexts (kind 0 or 1, two words), config count, configs (state, alternative rule or NONE, two flags, context, action count, actions)"
 abbrev pub contextWords : Context → List ℕ
 contextWords x = x .kind ∷ x .a ∷ x .b ∷ []
 

@@ -50,30 +50,28 @@ fn refusal_page(number: u32, place: usize, page: &mut [u8]) -> usize
     page::put_refusal(number, place, page, 0)
 }
 
-fn show_mode(room: &[u32], mode: u32) {
-    let mut page = [0u8; PAGE];
-    let n = mode_page(room, mode, &mut page);
+fn show_mode(room: &[u32], mode: u32, page: &mut [u8]) {
+    let n = mode_page(room, mode, page);
     io::write_all(STDOUT_FILENO, &page[..n]);
 }
 
-fn show_modes(room: &[u32], modes: u32) {
+fn show_modes(room: &[u32], modes: u32, page: &mut [u8]) {
     let mut mode = 0;
     while mode < modes {
-        show_mode(room, mode);
+        show_mode(room, mode, page);
         mode += 1;
     }
 }
 
-fn show_state(room: &[u32], state: u16) {
-    let mut page = [0u8; PAGE];
-    let n = state_page(room, state, &mut page);
+fn show_state(room: &[u32], state: u16, page: &mut [u8]) {
+    let n = state_page(room, state, page);
     io::write_all(STDOUT_FILENO, &page[..n]);
 }
 
-fn show_states(room: &[u32], states: u16) {
+fn show_states(room: &[u32], states: u16, page: &mut [u8]) {
     let mut state = 0;
     while state < states {
-        show_state(room, state);
+        show_state(room, state, page);
         state += 1;
     }
 }
@@ -88,30 +86,39 @@ fn all_of(states: u32) -> u16
     65535
 }
 
-fn show_table(room: &[u32], modes: u32, states: u32, words: usize) {
-    let mut page = [0u8; PAGE];
-    let n = table_page(modes, states, words, &mut page);
+fn show_head(modes: u32, states: u32, words: usize, page: &mut [u8]) {
+    let n = table_page(modes, states, words, page);
     io::write_all(STDOUT_FILENO, &page[..n]);
-    show_modes(room, modes);
-    show_states(room, all_of(states));
 }
 
-fn show_refusal(number: u32, place: usize) {
-    let mut page = [0u8; PAGE];
-    let n = refusal_page(number, place, &mut page);
+fn show_table(room: &[u32], modes: u32, states: u32, words: usize, page: &mut [u8]) {
+    show_head(modes, states, words, page);
+    show_modes(room, modes, page);
+    show_states(room, all_of(states), page);
+}
+
+fn show_refusal(number: u32, place: usize, page: &mut [u8]) {
+    let n = refusal_page(number, place, page);
     io::write_all(STDOUT_FILENO, &page[..n]);
+}
+
+// What decoding answered, part by part on one page.
+fn show(room: &[u32], decoded: Decoded) {
+    let mut page = [0u8; PAGE];
+    match decoded {
+        Decoded::Table {
+            modes,
+            states,
+            words,
+        } => show_table(room, modes, states, words, &mut page),
+        Decoded::Refused(refusal) => show_refusal(refusal.number, refusal.place, &mut page),
+    }
 }
 
 fn main() {
     let mut input = io::large_buffer();
     let n = io::read_full(STDIN_FILENO, &mut input);
     let mut room = [0u32; ROOM_NUMBERS];
-    match program_io::read_table(&input[..n], &mut room) {
-        Decoded::Table {
-            modes,
-            states,
-            words,
-        } => show_table(&room, modes, states, words),
-        Decoded::Refused(refusal) => show_refusal(refusal.number, refusal.place),
-    }
+    let decoded = program_io::read_table(&input[..n], &mut room);
+    show(&room, decoded);
 }

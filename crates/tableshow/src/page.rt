@@ -128,7 +128,11 @@ fn put_accepted(room: &[u32], accept: u32, page: &mut [u8], n: usize) -> usize
 {
     let behind_word = put_text(b": accept ", page, n);
     let behind_number = put_number(accept as u64, page, behind_word);
-    put_said(accepts::accept_record(room, accept), page, behind_number)
+    put_said(
+        accept_records::accept_record(room, accept),
+        page,
+        behind_number,
+    )
 }
 
 fn put_accept(room: &[u32], accept: u32, page: &mut [u8], n: usize) -> usize
@@ -287,7 +291,7 @@ fn continuation_number(continuation: Continuation) -> u32
 fn put_end_of(room: &[u32], state: u16, page: &mut [u8], n: usize) -> usize
     ensures { λ r. ⌜ Shown (endTarget (orElse 65535 (eofTarget (now (room .entry)) state))) n (now (page .entry)) r (now (page .exit)) ⌝ }
 {
-    let to = number_of(targets::eof_target(room, state));
+    let to = number_of(char_targets::eof_target(room, state));
     put_end_target(to, page, n)
 }
 

@@ -1,23 +1,22 @@
--- The laws of the targets: where a row lies, and that `said` takes no two answers to one. Assumes nothing.
+-- The laws of the targets: where an ascii row lies, and that `said` takes no two answers to one. Assumes nothing.
 use Prim.Native.Nat.{ℕ, _+_, _*_, _/_, _^_, _<_, _≤_}
 use native.Mathlib.Omega.{arith}
 use mathlib.Core.Path.{_≡_, refl, sym, ap, _∙_}
 use mathlib.Core.List.{List}
-use lib.Dec.{ltb, eqb}
+use lib.Dec.{eqb}
 use lib.ListN.{length, getD}
 use mir.Syntax.{w64}
 use mir.Val.{Fits}
 use borrow.Author.Needs.{needs}
-use borrow.Author.Tests.{le-leb, lt-leb, lt-ltb, le-ltb, eq-eqb, ne-eqb, ltb-true}
+use borrow.Author.Tests.{lt-ltb, le-ltb, eq-eqb, ne-eqb}
 use Rattle.refusal.specs.Said.{Said, ok, no}
 use Rattle.refusal.specs.Lists.{pick}
 use Rattle.room_read.specs.declared.Found.{Found}
 use Rattle.room_read.specs.declared.Found.the-variants.{At}
-use Rattle.room_read.proofs.Records.{held, record-at-in-room, ofstate}
-use Rattle.room_read.proofs.Searches.{gives, gives-none, row-outside}
+use Rattle.room_read.proofs.Records.{record-at-in-room, ofstate}
 use Rattle.targets.specs.declared.Target.{Target}
 use Rattle.targets.specs.declared.Target.the-variants.{To, NoState, NotTable}
-use Rattle.targets.specs.Targets.{said, asciiRowAt, wideRowAt}
+use Rattle.targets.specs.Targets.{said, asciiRowAt}
 
 -- a symbol's word lies in its row, and the row in the room
 module _ (w : List ℕ) (row : ℕ) {p : ℕ} {got : Found} (g : got ≡ asciiRowAt w row) (e : got ≡ At p) where
@@ -31,19 +30,11 @@ module _ (w : List ℕ) (row : ℕ) {p : ℕ} {got : Found} (g : got ≡ asciiRo
   pub symbol-index : (x : ℕ) → x < 128 → length w * 4 < 2 ^ 63 → Fits w64 (p + x / 2)
   symbol-index x h l = record { fits = omega (arith, whole) }
 
--- a wide row is found only behind a header
-pub wide-header : (w : List ℕ) (row : ℕ) {p : ℕ} {got : Found} → got ≡ wideRowAt w row → got ≡ At p → 8 < length w
-unfolding wideRowAt
-wide-header w row g e = ltb-true 8 (length w) (held (ltb 8 (length w)) (sym g ∙ e) .0)
-
-pub wide-end : (w : List ℕ) (row : ℕ) {p : ℕ} {got : Found} → got ≡ wideRowAt w row → got ≡ At p → 6 < length w
-wide-end w row g e = omega (arith, wide-header w row g e)
-
 -- by the tests on the way
-pub ruleset cases = (needs, le-leb, lt-leb, lt-ltb, le-ltb, eq-eqb, ne-eqb)
+pub ruleset cases = (needs, lt-ltb, le-ltb, eq-eqb, ne-eqb)
 
 -- by what is found
-pub ruleset chain = (ofstate, lt-ltb, le-ltb, symbol-word, symbol-index, gives, gives-none, row-outside, wide-end)
+pub ruleset chain = (ofstate, lt-ltb, le-ltb, symbol-word, symbol-index)
 
 -- `said` takes no two answers to one: what it says gives the answer back
 abbrev back : Said → Target

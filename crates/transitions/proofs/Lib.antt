@@ -2,8 +2,6 @@ pub mod Order
 pub mod Pairs
 pub mod Tags
 pub mod Records
-pub mod Puts
 pub mod Accepted
-pub mod Gathers
 pub mod Holds
 pub mod Complements

@@ -1,4 +1,4 @@
--- A record by its tag: its transition, its length, its order, how many intervals it has, and their ends written. Assumes nothing.
+-- A record by its tag: its transition, its length, its order, its intervals and how many they are. Assumes nothing.
 use mathlib.Core.Path.{_≡_, sym, ap, _∙_}
 use mathlib.Core.List.{List, []}
 use mathlib.Core.Bool.{Bool, true}
@@ -8,9 +8,8 @@ use native.Mathlib.Omega.{arith}
 use borrow.Author.Needs.{needs}
 use borrow.Author.Tests.{ne-eqb, eqb-true}
 use lib.ListN.{length}
-use Rattle.written.specs.Over.{Put}
 use Rattle.transitions.specs.Transition.{atom, range, set, notSet, wildcard, origin, beyond, orderly, inOrder}
-use Rattle.transitions.specs.Intervals.{clip, clips, gaps, intervals, ends}
+use Rattle.transitions.specs.Intervals.{clip, clips, gaps, intervals}
 use Rattle.transitions.specs.Bytes.{numberAt, pairsAt, shapeOf, transOf}
 
 -- The length that a tag wants, and what lies in the bytes for it
@@ -80,23 +79,23 @@ module _ (w : List ℕ) (tag size p : ℕ) where
 
   -- Its intervals
 
-  intervals-1 : {k : ℕ} → tag ≡ 1 → k ≡ numberAt w p → intervals (transOf w tag size p) ≡ clip k (k + 1) []
+  pub intervals-1 : {k : ℕ} → tag ≡ 1 → k ≡ numberAt w p → intervals (transOf w tag size p) ≡ clip k (k + 1) []
   unfolding intervals
   intervals-1 h a = rw (trans-1 h, ← a, add-one)
 
-  intervals-2 : {low high : ℕ} → tag ≡ 2 → low ≡ numberAt w p → high ≡ numberAt w (p + 4) → intervals (transOf w tag size p) ≡ clip low (high + 1) []
+  pub intervals-2 : {low high : ℕ} → tag ≡ 2 → low ≡ numberAt w p → high ≡ numberAt w (p + 4) → intervals (transOf w tag size p) ≡ clip low (high + 1) []
   unfolding intervals
   intervals-2 h a b = rw (trans-2 h, ← a, ← b, add-one)
 
-  intervals-3 : tag ≡ 3 → intervals (transOf w tag size p) ≡ clips (pairsAt w (size / 8) p)
+  pub intervals-3 : tag ≡ 3 → intervals (transOf w tag size p) ≡ clips (pairsAt w (size / 8) p)
   unfolding intervals
   intervals-3 h = rw (trans-3 h)
 
-  intervals-4 : tag ≡ 4 → intervals (transOf w tag size p) ≡ gaps origin (pairsAt w (size / 8) p)
+  pub intervals-4 : tag ≡ 4 → intervals (transOf w tag size p) ≡ gaps origin (pairsAt w (size / 8) p)
   unfolding intervals
   intervals-4 h = rw (trans-4 h)
 
-  intervals-5 : (tag ≡ 1 → ⊥) → (tag ≡ 2 → ⊥) → (tag ≡ 3 → ⊥) → (tag ≡ 4 → ⊥) → intervals (transOf w tag size p) ≡ clip origin beyond []
+  pub intervals-5 : (tag ≡ 1 → ⊥) → (tag ≡ 2 → ⊥) → (tag ≡ 3 → ⊥) → (tag ≡ 4 → ⊥) → intervals (transOf w tag size p) ≡ clip origin beyond []
   unfolding intervals
   intervals-5 a b c d = rw (trans-5 a b c d)
 
@@ -118,49 +117,6 @@ module _ (w : List ℕ) (tag size p : ℕ) where
   unfolding clip
   count-5 a b c d = sym (ap length (intervals-5 a b c d))
 
-  -- Their ends, for which there is room, and which are written
-
-  module _ (n : ℕ) (d : List ℕ) where
-    abbrev Room : List ℕ → Type 0
-    Room xs = n + length xs ≤ length d
-
-    module _ {k : ℕ} (h : tag ≡ 1) (a : k ≡ numberAt w p) where
-      pub room-1 : Room (ends (intervals (transOf w tag size p))) → Room (ends (clip k (k + 1) []))
-      room-1 g = rw (intervals-1 h a) at g
-
-      pub put-1 : {r : ℕ} {e : List ℕ} → Put (ends (clip k (k + 1) [])) n d r e → Put (ends (intervals (transOf w tag size p))) n d r e
-      put-1 g = rw (intervals-1 h a) g
-
-    module _ {low high : ℕ} (h : tag ≡ 2) (a : low ≡ numberAt w p) (b : high ≡ numberAt w (p + 4)) where
-      pub room-2 : Room (ends (intervals (transOf w tag size p))) → Room (ends (clip low (high + 1) []))
-      room-2 g = rw (intervals-2 h a b) at g
-
-      pub put-2 : {r : ℕ} {e : List ℕ} → Put (ends (clip low (high + 1) [])) n d r e → Put (ends (intervals (transOf w tag size p))) n d r e
-      put-2 g = rw (intervals-2 h a b) g
-
-    module _ (h : tag ≡ 3) where
-      pub room-3 : Room (ends (intervals (transOf w tag size p))) → Room (ends (clips (pairsAt w (size / 8) p)))
-      room-3 g = rw (intervals-3 h) at g
-
-      pub put-3 : {r : ℕ} {e : List ℕ} → Put (ends (clips (pairsAt w (size / 8) p))) n d r e → Put (ends (intervals (transOf w tag size p))) n d r e
-      put-3 g = rw (intervals-3 h) g
-
-    module _ (h : tag ≡ 4) where
-      pub room-4 : Room (ends (intervals (transOf w tag size p))) → Room (ends (gaps origin (pairsAt w (size / 8) p)))
-      room-4 g = rw (intervals-4 h) at g
-
-      pub put-4 : {r : ℕ} {e : List ℕ} → Put (ends (gaps origin (pairsAt w (size / 8) p))) n d r e → Put (ends (intervals (transOf w tag size p))) n d r e
-      put-4 g = rw (intervals-4 h) g
-
-    module _ (h : tag ≡ 1 → ⊥) (i : tag ≡ 2 → ⊥) (j : tag ≡ 3 → ⊥) (k : tag ≡ 4 → ⊥) where
-      pub room-5 : Room (ends (intervals (transOf w tag size p))) → Room (ends (clip origin beyond []))
-      room-5 g = rw (intervals-5 h i j k) at g
-
-      pub put-5 : {r : ℕ} {e : List ℕ} → Put (ends (clip origin beyond [])) n d r e → Put (ends (intervals (transOf w tag size p))) n d r e
-      put-5 g = rw (intervals-5 h i j k) g
-
 pub ruleset tags = (needs, order-1, order-2, order-3, order-4, order-5)
 
 pub ruleset counted-by-tag = (needs, value-1, value-2, value-high, count-1, count-2, count-3, count-4, count-5)
-
-pub ruleset put-by-tag = (needs, value-1, value-2, value-high, room-1, put-1, room-2, put-2, room-3, put-3, room-4, put-4, room-5, put-5)

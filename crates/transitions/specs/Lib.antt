@@ -3,4 +3,3 @@ pub mod Intervals
 pub mod Bytes
 pub mod Read
 pub mod Walk
-pub mod Ends

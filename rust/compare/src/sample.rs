@@ -1,6 +1,6 @@
 //! The recorded samples: questions, and what the original answers. The programs `replay`,
-//! `replay_lookups` and `replay_rows` read them from standard input and ask the proved functions the
-//! same.
+//! `replay_lookups`, `replay_rows` and `replay_forms` read them from standard input and ask the proved
+//! functions the same.
 //!
 //! In that of `replay` records stand one after the other, numbers little-endian; all seeded, so that every run writes
 //! the same bytes.
@@ -16,6 +16,7 @@
 //! turn and add up what the sum is after each, all in 32 bits.
 
 mod decode;
+mod forms;
 mod lookups;
 mod rows;
 
@@ -25,8 +26,13 @@ use oracle::AsciiRangeClass;
 const EACH: usize = 600;
 
 /// The programs, and the sample of each.
-pub fn all() -> [(&'static str, Vec<u8>); 3] {
-    [("replay", bytes()), ("replay_lookups", lookups::bytes()), ("replay_rows", rows::bytes())]
+pub fn all() -> [(&'static str, Vec<u8>); 4] {
+    [
+        ("replay", bytes()),
+        ("replay_lookups", lookups::bytes()),
+        ("replay_rows", rows::bytes()),
+        ("replay_forms", forms::bytes()),
+    ]
 }
 
 /// The whole sample. `replay` reads 65,536 bytes.

@@ -1,5 +1,5 @@
 -- Each answer goes on from what was found.
-use Rattle.accepts.proofs.Laws.{chain}
+use Rattle.room_read.proofs.Records.{ofstate}
 use Rattle.accepts.proofs.accept.Statement.{statement}
 use Rattle.accepts.proofs.accept.Tie as tie
 
@@ -7,13 +7,13 @@ pub accept-spec : {M : Type 1} → statement M
 accept-spec =
     tie.close
     (tie.spec
-    (λ c κs. search chain)
-    (λ c. search chain)
-    (λ c. search chain)
-    (λ c. search chain)
-    (λ c. search chain)
-    (λ c. search chain)
-    (λ c. search chain)
-    (λ c. search chain)
-    (λ c. search chain)
-    (λ c. search chain))
+    (λ c κs. search ofstate)
+    (λ c. search ofstate)
+    (λ c. search ofstate)
+    (λ c. search ofstate)
+    (λ c. search ofstate)
+    (λ c. search ofstate)
+    (λ c. search ofstate)
+    (λ c. search ofstate)
+    (λ c. search ofstate)
+    (λ c. search ofstate))

@@ -7,8 +7,7 @@ use Rattle.masks.proofs.Words.{words, word-size, word-value}
 use Rattle.masks.proofs.word_of.Reads as word-of
 use Rattle.masks.proofs.word_of.Kinds as word-of-kinds
 use Rattle.masks.proofs.+word_of.Lts-word_of as word-of-lts
-use Rattle.masks.proofs.bit_of.Reads as bit-of-reads
-use Rattle.masks.proofs.holds_from.Reads as holds-from-reads
+use Rattle.masks.proofs.bit_from.Reads as bit-from-reads
 use Rattle.masks.proofs.size_at.Reads as size-at-reads
 use Rattle.masks.proofs.+word_of.{statement}
 use Rattle.masks.proofs.+word_of.Tie.{close}
@@ -26,10 +25,8 @@ pub +word-of-spec : {M : Type 1} → statement M
 +word-of-spec = close μ-word-of λ t. word-of-lts.spec (
   size-at-reads.Asked,
   size-at-reads.Learnt,
-  holds-from-reads.Asked,
-  holds-from-reads.Learnt,
-  bit-of-reads.Asked,
-  bit-of-reads.Learnt,
+  bit-from-reads.Asked,
+  bit-from-reads.Learnt,
   word-of-below t,
   word-of.Post,
 )
@@ -41,12 +38,11 @@ pub +word-of-spec : {M : Type 1} → statement M
     (λ c κs. search words)
     (λ c. omega (arith, word-size _ _ _ (c .before .before .before .before .pre .1 .0) (c .before .before .if1 .left)))
     (λ c κs. search words)
-    (λ c κs. search words)
-    (λ c. omega (arith, word-size _ _ _ (c .before .before .before .before .before .before .pre .1 .0) (c .before .before .before .before .if1 .left)))
+    (λ c. omega (arith, word-size _ _ _ (c .before .before .before .before .before .pre .1 .0) (c .before .before .before .if1 .left)))
     (λ c.
     omega (
       arith,
-      word-value _ _ _ (c .before .before .before .before .before .before .pre .1 .0) (c .before .before .before .before .if1 .left) (c .before .before .size-at .ensures .0),
+      word-value _ _ _ (c .before .before .before .before .before .pre .1 .0) (c .before .before .before .if1 .left) (c .before .size-at .ensures .0),
     ))
     (λ c. search words)
     (λ c κs. search words)

@@ -3,16 +3,16 @@ use Prim.Native.Nat.{_+_, _*_, _≤_}
 use mathlib.Core.Path.{_≡_}
 use lib.ListN.{length}
 use Rattle.transitions.specs.Bytes.{transOf}
+use Rattle.masks.specs.Walk.{Tells}
 use Rattle.masks.proofs.Columns.{columns, Filling}
 use Rattle.masks.proofs.add_column.Statement.{statement}
 use Rattle.masks.proofs.add_column.Tie as tie
 
 abbrev Inv-loop : tie.InvT-loop
-Inv-loop list tag size p segments count out₀ left₀ at₀ k₀ j₀ out left at k j =
-    (at + 2 * left ≤ length segments) × (k + left ≡ count) × Filling (transOf list tag size p) segments count out₀ left at k out
+Inv-loop list tag size p segments count out₀ left₀ at₀ k₀ span₀ out left at k span = (at + 2 * left ≤ length segments) × (k + left ≡ count) × Filling (transOf list tag size p) segments count out₀ left at k out × Tells (transOf list tag size p) tag (span .floor) (span .low) (span .high)
 
 abbrev μ-loop : tie.MeasureT-loop
-μ-loop list tag size p segments count out₀ left₀ at₀ k₀ j₀ out left at k j = left
+μ-loop list tag size p segments count out₀ left₀ at₀ k₀ span₀ out left at k span = left
 
 pub add-column-spec : {M : Type 1} → statement M
 add-column-spec =
@@ -24,7 +24,7 @@ add-column-spec =
     (λ c. search columns)
     (λ c. search columns)
     (λ c κs. search columns)
-    (λ c κs. search columns)
+    (λ c κs. (search columns, (search columns, (search columns, (search columns, search columns)))))
     (λ c κs. search columns)
     (λ c. search columns)
     (λ c. search columns)

@@ -11,13 +11,7 @@ listed-in-spec =
     (tie.spec
     (λ c. search cases)
     (λ c. search cases)
-    (λ c. search cases)
-    (λ c. search cases)
-    (λ c. search cases)
-    (λ c. search cases)
     (λ c κs. search cases)
-    (λ c. search cases)
-    (λ c. search cases)
     (λ c. search cases)
     (λ c. search cases)
     (λ c. search cases)

@@ -1,5 +1,5 @@
 -- By the test on the way.
-use Rattle.rows.proofs.Keeping.{giving}
+use Rattle.rows.proofs.Aiming.{giving}
 use Rattle.rows.proofs.continuation_at.Statement.{statement}
 use Rattle.rows.proofs.continuation_at.Tie as tie
 

@@ -1,5 +1,5 @@
 -- By the tests on the way.
-use Rattle.rows.proofs.Keeping.{aiming}
+use Rattle.rows.proofs.Aiming.{aiming}
 use Rattle.rows.proofs.goal_of.Statement.{statement}
 use Rattle.rows.proofs.goal_of.Tie as tie
 
@@ -7,6 +7,7 @@ pub goal-of-spec : {M : Type 1} → statement M
 goal-of-spec =
     tie.close
     (tie.spec
+    (λ c κs. search aiming)
     (λ c κs. search aiming)
     (λ c. search aiming)
     (λ c κs. search aiming)

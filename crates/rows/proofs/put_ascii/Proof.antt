@@ -1,13 +1,14 @@
--- By the law of every loop that writes: the targets of the ranges that are left, from m on, give what all of them give.
-use Rattle.rows.proofs.Parting.{Filling, targeting}
+-- By the law of every loop that writes: the targets of the segments that are left, from m on, give what all of them give.
+use Prim.Native.Nat.{_-_}
+use Rattle.rows.proofs.Parting.{Filling, targeting, ascii-turn}
 use Rattle.rows.proofs.put_ascii.Statement.{statement}
 use Rattle.rows.proofs.put_ascii.Tie as tie
 
 abbrev Inv-loop : tie.InvT-loop
-Inv-loop ranges count out₀ here₀ left₀ m₀ out here left m = Filling ranges count out₀ left here m out
+Inv-loop segments places count targets out₀ k₀ m₀ out k m = Filling targets segments places count out₀ k m out
 
 abbrev μ-loop : tie.MeasureT-loop
-μ-loop ranges count out₀ here₀ left₀ m₀ out here left m = left
+μ-loop segments places count targets out₀ k₀ m₀ out k m = count - k
 
 pub put-ascii-spec : {M : Type 1} → statement M
 put-ascii-spec =
@@ -25,10 +26,12 @@ put-ascii-spec =
     (λ c. search targeting)
     (λ c. search targeting)
     (λ c κs. search targeting)
+    (λ c κs. search targeting)
     (λ c. search targeting)
     (λ c. search targeting)
-    (λ c. search targeting)
-    (λ c. search targeting)
+    (λ c.
+    let l = c .before .before .before .before .before .before .before .before .before .loop in
+    ascii-turn _ _ _ _ _ (l .k) (l .m) (l .out) (l .inv) (c .before .before .before .before .before .before .before .before .loop-test .taken) (c .before .before .before .target-at .ensures) (c .before .before .put-targets .ensures))
     (λ c κs. search targeting)
     (λ c. search targeting)
     (λ c. search targeting))

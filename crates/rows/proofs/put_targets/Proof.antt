@@ -10,11 +10,10 @@ put-targets-spec =
     (λ c κs. search ranging)
     (λ c κs. search ranging)
     (λ c κs. search ranging)
-    (λ c κs. search ranging)
     (λ c κs.
-    let g = c .before .before .before .before .before in
-    let e = g .before in
-    let s = e .before .before .before in
-    (second-order _ _ _ _ _ (s .pre .0) (s .pre .1) (e .edge .ensures) (g .fill .ensures) (c .before .edge-behind .ensures), second-fits _ _ _ _ _ (s .pre .0) (s .pre .1) (e .edge .ensures) (g .fill .ensures) (c .before .edge-behind .ensures)))
+    let s = c .before .before .before .before .before .before .before .before in
+    let e = c .before .before .before .before .before .edge in
+    let g = c .before .before .before .before .fill in
+    (second-order _ _ _ 0 _ (s .pre .0) (s .pre .1) (e .ensures) (g .ensures) (c .edge-behind .ensures), second-fits _ _ _ 0 _ (s .pre .0) (s .pre .1) (e .ensures) (g .ensures) (c .edge-behind .ensures)))
     (λ c. search ranging)
     (λ c. search ranging))

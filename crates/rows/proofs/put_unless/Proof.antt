@@ -1,4 +1,4 @@
--- By the test.
+-- By the tests on the way.
 use Rattle.rows.proofs.Joining.{choosing}
 use Rattle.rows.proofs.put_unless.Statement.{statement}
 use Rattle.rows.proofs.put_unless.Tie as tie
@@ -8,6 +8,9 @@ put-unless-spec =
     tie.close
     (tie.spec
     (λ c. search choosing)
+    (λ c κs. search choosing)
+    (λ c. search choosing)
+    (λ c κs. search choosing)
     (λ c κs. search choosing)
     (λ c. search choosing)
     (λ c. search choosing))

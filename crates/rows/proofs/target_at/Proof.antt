@@ -1,5 +1,5 @@
 -- By the test on the way.
-use Rattle.rows.proofs.Keeping.{giving}
+use Rattle.rows.proofs.Aiming.{giving}
 use Rattle.rows.proofs.target_at.Statement.{statement}
 use Rattle.rows.proofs.target_at.Tie as tie
 
@@ -9,7 +9,5 @@ target-at-spec =
     (tie.spec
     (λ c. search giving)
     (λ c. search giving)
-    (λ c κs. search giving)
     (λ c. search giving)
-    (λ c κs. search giving)
     (λ c. search giving))

@@ -1,5 +1,5 @@
-//! Writes the recorded samples for the programs `replay`, `replay_lookups` and `replay_rows`, into the
-//! folder of crates given or into ../crates.
+//! Writes the recorded samples for the programs `replay`, `replay_lookups`, `replay_rows` and `replay_forms`,
+//! into the folder of crates given or into ../crates.
 //!
 //!     cargo run --release --bin record [CRATES]
 

@@ -117,7 +117,7 @@ fn sample_of(program: &str) -> String {
 }
 
 fn sample() -> Result<Check, String> {
-    for program in ["replay", "replay_lookups", "replay_rows"] {
+    for program in ["replay", "replay_lookups", "replay_rows", "replay_forms"] {
         if !std::path::Path::new(&sample_of(program)).exists() {
             return Err(format!("crates/{program}/stdin is not there"));
         }

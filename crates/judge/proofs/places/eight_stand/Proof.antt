@@ -1,12 +1,7 @@
 -- The tests are the definition's.
-use Rattle.judge.specs.Standing.{eightStand}
-use Rattle.judge.proofs.Comparing.{standing-one}
+use Rattle.judge.proofs.Comparing.{standing-one, standing-eight}
 use Rattle.judge.proofs.places.eight_stand.Statement.{statement}
 use Rattle.judge.proofs.places.eight_stand.Tie as tie
-
-returns : tie.Need-returns
-unfolding eightStand
-returns c = cc
 
 pub eight-stand-spec : {M : Type 1} → statement M
 eight-stand-spec =
@@ -14,4 +9,4 @@ eight-stand-spec =
     (tie.spec
     (λ c κs. search standing-one)
     (λ c κs. search standing-one)
-    returns)
+    (λ c. search standing-eight))

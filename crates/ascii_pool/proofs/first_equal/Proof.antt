@@ -1,0 +1,31 @@
+-- The first equal row stands as far behind as it does from here.
+use Prim.Native.Nat.{_+_, _≤_}
+use mathlib.Core.Path.{_≡_}
+use lib.ListN.{length}
+use Rattle.pools.specs.Pools.{ascii, rowsFrom, behind, firstEqual}
+use Rattle.pools.proofs.Rows.{finding}
+use Rattle.ascii_pool.proofs.first_equal.Statement.{statement}
+use Rattle.ascii_pool.proofs.first_equal.Tie as tie
+
+abbrev Inv-loop : tie.InvT-loop
+Inv-loop pool rows row left₀ at₀ i₀ left at i =
+    (i + firstEqual row (rowsFrom ascii pool left at) ≡ firstEqual row (rowsFrom ascii pool rows 0)) × (behind ascii pool left at ≤ length pool) × (i + left ≤ rows)
+
+abbrev μ-loop : tie.MeasureT-loop
+μ-loop pool rows row left₀ at₀ i₀ left at i = left
+
+pub first-equal-spec : {M : Type 1} → statement M
+first-equal-spec =
+    tie.close
+    (tie.spec
+    Inv-loop
+    μ-loop
+    (λ c. search finding)
+    (λ c κs. (search finding, search finding))
+    (λ c. search finding)
+    (λ c. search finding)
+    (λ c. search finding)
+    (λ c. search finding)
+    (λ c. search finding)
+    (λ c. search finding)
+    (λ c. search finding))

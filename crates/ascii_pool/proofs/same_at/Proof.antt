@@ -1,0 +1,33 @@
+-- What is left to compare gives what all gives.
+use Prim.Native.Nat.{_-_, _≤_}
+use mathlib.Core.Path.{_≡_}
+use lib.ListN.{length, take, drop}
+use Rattle.pools.specs.Pools.{same}
+use Rattle.pools.proofs.Rows.{sameFrom}
+use Rattle.pools.proofs.Rows.{comparing}
+use Rattle.ascii_pool.proofs.same_at.Statement.{statement}
+use Rattle.ascii_pool.proofs.same_at.Tie as tie
+
+abbrev Inv-loop : tie.InvT-loop
+Inv-loop pool at row j₀ j = (j ≤ length row) × (sameFrom 128 pool at row j ≡ same (take 128 (drop at pool)) row)
+
+abbrev μ-loop : tie.MeasureT-loop
+μ-loop pool at row j₀ j = length row - j
+
+pub same-at-spec : {M : Type 1} → statement M
+same-at-spec =
+    tie.close
+    (tie.spec
+    Inv-loop
+    μ-loop
+    (λ c. search comparing)
+    (λ c. search comparing)
+    (λ c. search comparing)
+    (λ c. search comparing)
+    (λ c. search comparing)
+    (λ c. search comparing)
+    (λ c. search comparing)
+    (λ c. search comparing)
+    (λ c. search comparing)
+    (λ c. search comparing)
+    (λ c. search comparing))

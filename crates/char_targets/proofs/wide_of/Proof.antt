@@ -1,0 +1,20 @@
+-- Each answer goes on from what was found.
+use Rattle.char_targets.proofs.Laws.{chain}
+use Rattle.char_targets.proofs.wide_of.Statement.{statement}
+use Rattle.char_targets.proofs.wide_of.Tie as tie
+
+pub wide-of-spec : {M : Type 1} → statement M
+wide-of-spec =
+    tie.close
+    (tie.spec
+    (λ c κs. search chain)
+    (λ c. search chain)
+    (λ c. search chain)
+    (λ c. search chain)
+    (λ c. search chain)
+    (λ c κs. search chain)
+    (λ c. search chain)
+    (λ c. search chain)
+    (λ c. search chain)
+    (λ c. search chain)
+    (λ c. search chain))

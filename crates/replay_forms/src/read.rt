@@ -1,0 +1,32 @@
+// Reads what stands at the front of a slice. Past its end every byte is 0, so that no reader asks anything of its caller;
+// whether a record is whole is seen from how many bytes are left.
+ghost use Prim.Native.Nat.{_<_};
+
+fn byte(s: &[u8], at: usize) -> u8 {
+    if at < s.len() { s[at] } else { 0 }
+}
+
+// What stands after the first n bytes.
+pub fn after(s: &[u8], n: usize) -> &[u8] {
+    if n <= s.len() { &s[n..] } else { &s[0..0] }
+}
+
+fn wide(x: u8) -> u16
+    ensures { λ r. ⌜ r < 256 ⌝ }
+{
+    x as u16
+}
+
+fn wider(x: u16) -> u32
+    ensures { λ r. ⌜ r < 65536 ⌝ }
+{
+    x as u32
+}
+
+pub fn half(s: &[u8]) -> u16 {
+    wide(byte(s, 0)) + 256 * wide(byte(s, 1))
+}
+
+pub fn word(s: &[u8]) -> u32 {
+    wider(half(s)) + 65536 * wider(half(after(s, 2)))
+}

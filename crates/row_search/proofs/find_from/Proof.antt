@@ -1,0 +1,45 @@
+-- The ranges that are left, from here, give what all of them give.
+use native.Mathlib.Omega.{arith}
+use Prim.Native.Nat.{_≤_, _+_, _*_}
+use mathlib.Core.Path.{_≡_}
+use lib.ListN.{length}
+use Rattle.room_read.specs.Search.{found}
+use Rattle.row_search.proofs.Searches.{hit}
+use Rattle.row_search.proofs.Searches.{searching}
+use Rattle.row_search.proofs.find_from.Statement.{statement}
+use Rattle.row_search.proofs.find_from.Tie as tie
+
+abbrev Inv-loop : tie.InvT-loop
+Inv-loop room x count at left₀ here₀ left here = (found room x left here ≡ found room x count at) × (here + left * 3 ≤ length room)
+
+abbrev μ-loop : tie.MeasureT-loop
+μ-loop room x count at left₀ here₀ left here = left
+
+returns : tie.Need-returns Inv-loop μ-loop
+returns c =
+    let l = c .before .before .before .before .before .before .loop in
+    let s = c .before .before .before .before .before .before .before .args in
+    hit (s .room .now) (s .x) (l .left) (l .here) (omega arith) (omega arith) (omega arith) (l .inv .0)
+
+pub find-from-spec : {M : Type 1} → statement M
+find-from-spec =
+    tie.close
+    (tie.spec
+    Inv-loop
+    μ-loop
+    (λ c. search searching)
+    (λ c. search searching)
+    (λ c. search searching)
+    (λ c. search searching)
+    (λ c. search searching)
+    (λ c. search searching)
+    (λ c. search searching)
+    (λ c. search searching)
+    (λ c. search searching)
+    returns
+    (λ c. search searching)
+    (λ c. search searching)
+    (λ c. search searching)
+    (λ c. search searching)
+    (λ c. search searching)
+    (λ c. search searching))

@@ -1,0 +1,12 @@
+-- By the tests on the way.
+use Rattle.rows.proofs.Building.{shortening}
+use Rattle.rows.proofs.too_short.Statement.{statement}
+use Rattle.rows.proofs.too_short.Tie as tie
+
+pub too-short-spec : {M : Type 1} → statement M
+too-short-spec =
+    tie.close
+    (tie.spec
+    (λ c. search shortening)
+    (λ c. search shortening)
+    (λ c. search shortening))

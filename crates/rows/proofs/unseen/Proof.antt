@@ -1,0 +1,12 @@
+-- By the tests on the way.
+use Rattle.rows.proofs.Joining.{seeing}
+use Rattle.rows.proofs.unseen.Statement.{statement}
+use Rattle.rows.proofs.unseen.Tie as tie
+
+pub unseen-spec : {M : Type 1} → statement M
+unseen-spec =
+    tie.close
+    (tie.spec
+    (λ c. search seeing)
+    (λ c. search seeing)
+    (λ c. search seeing))

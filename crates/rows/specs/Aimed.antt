@@ -1,0 +1,79 @@
+-- Rows as the loops of row building meet them, segment by segment: from the segments as numbers, the place of each segment's mask among the distinct masks, and
+-- what was given each place. One definition for both kinds of row, e says which: an escape row, or one of targets. Assumes nothing.
+use Prim.Native.Nat.{ℕ, zero, suc, _+_, _*_, _-_, min, max}
+use mathlib.Core.Path.{_≡_}
+use mathlib.Core.Bool.{Bool, true, false, _&&_, _||_}
+use mathlib.Core.List.{List, [], _∷_, _++_}
+use lib.Dec.{eqb, ltb}
+use lib.ListN.{length, getD, replicate}
+use Rattle.refusal.specs.Said.{ok, ROOM, TARGETS}
+use Rattle.refusal.specs.Lists.{pick}
+use Rattle.refusal.specs.Fixed.{NONE}
+use Rattle.table.specs.Table.{Range}
+use Rattle.written.specs.Over.{lay, Put}
+use Rattle.row_laws.specs.Row.{Row, DEAD, numbers, joinTo, partFrom, asciiPart}
+use Rattle.rows.specs.declared.Rows.{Rows}
+use Rattle.rows.specs.Answer.{said}
+
+abbrev pub rangeOf : ℕ → ℕ → ℕ → Range
+rangeOf low high goal = record { low = low; high = high; goal = goal }
+
+-- what a place was given: a target; or, for an escape row, a continuation, and none where the target is dead. Behind the last place nothing was given
+abbrev pub goalOf : Bool → List ℕ → List ℕ → ℕ → ℕ
+goalOf e targets conts k = pick e (pick (eqb (getD targets k DEAD) DEAD) NONE (getD conts k NONE)) (getD targets k DEAD)
+
+-- the goal of a segment that is left out
+abbrev pub noGoal : Bool → ℕ
+noGoal e = pick e NONE DEAD
+
+-- where a row begins: "parts at 128"
+abbrev pub firstOf : Bool → ℕ
+firstOf e = pick e 0 128
+
+-- n segments from the k-th on, each with its goal, those that are left out too
+unfoldable pub aimed : Bool → List ℕ → List ℕ → List ℕ → List ℕ → ℕ → ℕ → Row
+aimed e targets conts segments places zero k = []
+aimed e targets conts segments places (suc n) k =
+    rangeOf (getD segments (2 * k) 0) (getD segments (2 * k + 1) 0) (goalOf e targets conts (getD places k 0))
+    ∷ aimed e targets conts segments places n (k + 1)
+
+-- "Dead segments are left out of rows": ranges whose goal is another than d
+unfoldable pub living : ℕ → Row → Row
+living d [] = []
+living d (r ∷ rs) = pick (eqb (r .goal) d) (living d rs) (r ∷ living d rs)
+
+-- what of a row is written
+abbrev pub seen : Bool → Row → Row
+seen e rs = partFrom (firstOf e) (living (noGoal e) rs)
+
+-- .. of one range
+abbrev pub seenWords : Bool → ℕ → ℕ → ℕ → List ℕ
+seenWords e low high goal = pick (ltb high (firstOf e) || eqb goal (noGoal e)) [] (max low (firstOf e) ∷ high ∷ goal ∷ [])
+
+-- the first `count` segments, joined to a range without a goal, so far as they are written
+abbrev pub joined : Bool → List ℕ → List ℕ → List ℕ → List ℕ → ℕ → Row
+joined e targets conts segments places count = seen e (joinTo (rangeOf 0 0 (noGoal e)) (aimed e targets conts segments places count 0))
+
+-- the ascii targets from n on to behind a range: dead ones before it, then its own
+unfoldable pub targetsOf : ℕ → ℕ → ℕ → ℕ → List ℕ
+targetsOf n low high goal = replicate (min low 128 - n) DEAD ++ replicate (min (suc high) 128 - min low 128) goal
+
+-- "`split_rows` parts at 128": the ascii targets of the row ts stand in front of one buffer, and the n numbers of the row ws in front of the other
+pub record Split (ts ws : Row) (ascii ascii′ wide : List ℕ) (n : ℕ) (wide′ : List ℕ) : Type 0 where
+  pub narrow : ascii′ ≡ lay 0 (asciiPart ts) ascii
+  pub broad : Put (numbers ws) 0 wide n wide′
+
+-- .. and the row es in front of a third
+pub record Filled (r : Rows) (ts ws es : Row) (ascii ascii′ wide wide′ escape escape′ : List ℕ) : Type 0 where
+  pub says : said r ≡ ok (length (numbers ws) ∷ length (numbers es) ∷ [])
+  pub narrow : ascii′ ≡ lay 0 (asciiPart ts) ascii
+  pub broad : wide′ ≡ lay 0 (numbers ws) wide
+  pub escapes : escape′ ≡ lay 0 (numbers es) escape
+
+-- "targets or continuations differ in number from distinct masks": d is how many distinct masks there are
+abbrev pub differs : ℕ → ℕ → ℕ → Bool
+differs d targets conts = pick (eqb targets d && eqb conts d) false true
+
+-- "TARGETS, ROOM for these": the refusal's number, or 0
+abbrev pub refusalOf : Bool → Bool → ℕ
+refusalOf other short = pick other TARGETS (pick short ROOM 0)
