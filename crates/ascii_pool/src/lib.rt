@@ -2,8 +2,9 @@
 ghost use mathlib.Core.Path.{_≡_};
 ghost use Prim.Native.Nat.{_+_, _*_, _≤_};
 ghost use lib.ListN.{length, take, drop};
+ghost use Rattle.refusal.specs.Lists.{sameList, firstEqual};
 ghost use Rattle.written.specs.Over.{Put};
-ghost use Rattle.pools.specs.Pools.{ascii, rowsFrom, behind, same, firstEqual, append, findOrAppend, intern, Interns};
+ghost use Rattle.pools.specs.Pools.{ascii, rowsFrom, behind, append, findOrAppend, intern, Interns};
 use pools::Interned;
 use pools::refuse;
 use refusal::FIELD;
@@ -14,7 +15,7 @@ use refusal::ROOM;
 fn same_at(pool: &[u16], at: usize, row: &[u16]) -> bool
     requires within { ⌜ at + 128 ≤ length (now pool) ⌝ }
     requires size { ⌜ length (now row) ≡ 128 ⌝ }
-    ensures { λ r. ⌜ r ≡ same (take 128 (drop at (now (pool .entry)))) (now (row .entry)) ⌝ }
+    ensures { λ r. ⌜ r ≡ sameList (take 128 (drop at (now (pool .entry)))) (now (row .entry)) ⌝ }
 {
     let mut j = 0;
     while j < row.len() {

@@ -11,13 +11,13 @@ use borrow.Author.Tests.{lt-ltb, le-ltb, eq-eqb, ne-eqb}
 use lib.Dec.{ltb, eqb}
 use lib.ListN.{length, getD, take, drop, set, length-append, length-drop}
 use lib.Seq.{take-add, take-at, drop-at, drop-cons, drop-drop, length-take-le}
-use Rattle.refusal.specs.Lists.{pick}
+use Rattle.refusal.specs.Lists.{pick, sameList, firstEqual}
 use Rattle.refusal.specs.Fixed.{NONE}
 use Rattle.written.specs.Over.{over, lay, Put}
 use Rattle.written.proofs.Overs.{lay-length, lay-none, lay-lay}
 use Rattle.written.proofs.Going.{Going, going-start, going-place, going-put, going-done}
 use Rattle.transitions.proofs.Order.{le-cases}
-use Rattle.masks.specs.Masks.{flat, isZero, eqList, index, addNew, distinct, placeOf, placesIn}
+use Rattle.masks.specs.Masks.{flat, isZero, index, addNew, distinct, placeOf, placesIn}
 use Rattle.distinct_masks.specs.Walk.{chunks, Entered, Gathered, Spaced}
 use Rattle.masks.proofs.Keeps.{index-last, place-some, place-none, place-keep}
 
@@ -64,9 +64,9 @@ chunks-flat words (d ∷ ds) zs a =
 -- The search for a mask
 
 module _ (known m : List ℕ) (left words p i : ℕ) {all : ℕ} (e : i + index (chunks left words (drop p known)) m ≡ all) where
-  module _ {b : Bool} (n : 0 < left) (f : b ≡ eqList (take words (drop p known)) m) where
+  module _ {b : Bool} (n : 0 < left) (f : b ≡ sameList (take words (drop p known)) m) where
     open′ : index (chunks left words (drop p known)) m ≡ pick b 0 (suc (index (chunks (left - 1) words (drop (p + words) known)) m))
-    unfolding chunks index
+    unfolding chunks firstEqual
     open′ =
         let more : left ≡ suc (left - 1) = omega arith in
         ap (λ (k : ℕ). index (chunks k words (drop p known)) m) more ∙ (rw (← f, drop-drop words p known))
@@ -78,7 +78,7 @@ module _ (known m : List ℕ) (left words p i : ℕ) {all : ℕ} (e : i + index 
     find-turn h = omega (arith, e, open′ ∙ ap (λ (t : Bool). pick t 0 (suc (index (chunks (left - 1) words (drop (p + words) known)) m))) h)
 
   pub find-done : left ≤ 0 → i ≡ all
-  unfolding chunks index
+  unfolding chunks firstEqual
   find-done n = let z : left ≡ 0 = omega arith in let f = rw z at e in omega arith
 
 -- The same for one word
@@ -88,7 +88,7 @@ module _ (known : List ℕ) (d x i : ℕ) {all : ℕ} (e : i + index (chunks (d 
   others = index (chunks (d - (i + 1)) 1 (drop (i + 1) known)) (x ∷ [])
 
   open-word : index (chunks (d - i) 1 (drop i known)) (x ∷ []) ≡ pick (eqb (getD known i 0) x) 0 (suc others)
-  unfolding chunks index eqList
+  unfolding chunks firstEqual sameList
   open-word =
       let more : d - i ≡ suc (d - (i + 1)) = omega arith in
       let one : suc i ≡ i + 1 = omega arith in
@@ -103,7 +103,7 @@ module _ (known : List ℕ) (d x i : ℕ) {all : ℕ} (e : i + index (chunks (d 
   word-turn s = omega (arith, e, open-word ∙ ap (λ (t : Bool). pick t 0 (suc others)) (ne-eqb (getD known i 0) x s))
 
 pub word-end : (known : List ℕ) (d x i : ℕ) {all : ℕ} → i + index (chunks (d - i) 1 (drop i known)) (x ∷ []) ≡ all → d ≤ i → i ≡ all
-unfolding chunks index
+unfolding chunks firstEqual
 word-end known d x i e n = let z : d - i ≡ 0 = omega arith in let f = rw z at e in omega arith
 
 pub word-start : (known : List ℕ) (d x : ℕ) → 0 + index (chunks (d - 0) 1 (drop 0 known)) (x ∷ []) ≡ index (chunks d 1 known) (x ∷ [])

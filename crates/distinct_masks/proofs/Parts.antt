@@ -9,9 +9,10 @@ use borrow.Author.Needs.{needs}
 use borrow.Author.Tests.{eq-eqb, ne-eqb}
 use lib.ListN.{length, getD, take, drop, set}
 use lib.Seq.{drop-cons}
+use Rattle.refusal.specs.Lists.{sameList}
 use Rattle.written.specs.Over.{Put}
 use Rattle.written.proofs.Going.{Going, going-start, going-done, going-place, going-put}
-use Rattle.masks.specs.Masks.{isZero, eqList}
+use Rattle.masks.specs.Masks.{isZero}
 
 -- The first word and the others
 
@@ -44,18 +45,18 @@ module _ (ns : List ℕ) (p left : ℕ) {all : Bool} (i : isZero (take left (dro
 
 -- Is it the other?
 
-module _ (ns ms : List ℕ) (p q left : ℕ) {all : Bool} (i : eqList (take left (drop p ns)) (take left (drop q ms)) ≡ all) where
+module _ (ns ms : List ℕ) (p q left : ℕ) {all : Bool} (i : sameList (take left (drop p ns)) (take left (drop q ms)) ≡ all) where
   module _ (n : 0 < left) (h : p + left ≤ length ns) (k : q + left ≤ length ms) where
     pub same-not : (getD ns p 0 ≡ getD ms q 0 → ⊥) → false ≡ all
-    unfolding eqList
+    unfolding sameList
     same-not e = rw (part-open ns p left n h, part-open ms q left n k, ne-eqb (getD ns p 0) (getD ms q 0) e) at i
 
-    pub same-turn : getD ns p 0 ≡ getD ms q 0 → eqList (take (left - 1) (drop (p + 1) ns)) (take (left - 1) (drop (q + 1) ms)) ≡ all
-    unfolding eqList
+    pub same-turn : getD ns p 0 ≡ getD ms q 0 → sameList (take (left - 1) (drop (p + 1) ns)) (take (left - 1) (drop (q + 1) ms)) ≡ all
+    unfolding sameList
     same-turn e = rw (part-open ns p left n h, part-open ms q left n k, eq-eqb (getD ns p 0) (getD ms q 0) e) at i
 
   pub same-done : left ≤ 0 → true ≡ all
-  unfolding eqList
+  unfolding sameList
   same-done n = rw (part-done ns p left n, part-done ms q left n) at i
 
 -- It is copied

@@ -5,9 +5,9 @@ ghost use mathlib.Core.Bool.{_||_};
 ghost use Prim.Native.Nat.{_+_, _*_, _≤_, _<_};
 ghost use lib.Dec.{eqb, ltb};
 ghost use lib.ListN.{length, take, drop};
-ghost use Rattle.refusal.specs.Lists.{pick};
+ghost use Rattle.refusal.specs.Lists.{pick, sameList};
 ghost use Rattle.written.specs.Over.{Put};
-ghost use Rattle.masks.specs.Masks.{isZero, eqList, index};
+ghost use Rattle.masks.specs.Masks.{isZero, index};
 ghost use Rattle.distinct_masks.specs.Walk.{chunks, Entered, Gathered, Spaced, Zeroed, Cleared};
 ghost use Rattle.masks.specs.Answer.{parseMasks, parseDistinct, parsePlaces, Distinct, Placed};
 use masks::Masks;
@@ -41,7 +41,7 @@ fn is_zero(masks: &[u64], at: usize, words: usize) -> bool
 fn same_at(known: &[u64], p: usize, masks: &[u64], at: usize, words: usize) -> bool
     requires one { ⌜ p + words ≤ length (now known) ⌝ }
     requires other { ⌜ at + words ≤ length (now masks) ⌝ }
-    ensures { λ r. ⌜ r ≡ eqList (take words (drop p (now (known .entry)))) (take words (drop at (now (masks .entry)))) ⌝ }
+    ensures { λ r. ⌜ r ≡ sameList (take words (drop p (now (known .entry)))) (take words (drop at (now (masks .entry)))) ⌝ }
 {
     let mut i = p;
     let mut j = at;

@@ -12,7 +12,7 @@ use lib.ListN.{length, getD, take, drop, set, length-take, length-drop, drop-of-
 use lib.Seq.{drop-cons, drop-drop, take-all, take-add, take-length, length-take-le}
 use Rattle.refusal.specs.declared.Refusal.{Refusal}
 use Rattle.refusal.specs.Said.{Said, ok, no, NOT-TABLE, ROOM}
-use Rattle.refusal.specs.Lists.{pick}
+use Rattle.refusal.specs.Lists.{pick, sameList}
 use Rattle.layout.specs.declared.Sections.{Sections}
 use Rattle.layout.specs.declared.Sections.the-variants.{Found, Unfound}
 use Rattle.layout.specs.Layout.{unfound, layoutOf}
@@ -23,7 +23,7 @@ use Rattle.room.specs.Room.{laidOut}
 use Rattle.room.proofs.Sizes.{ordered}
 use Rattle.codec.specs.Decode.{decodedFrom, roomOf}
 use Rattle.codec.proofs.Decoding.{kept}
-use Rattle.judge.specs.Judge.{wordsPart, sameList, accepted, isTable, tableIn}
+use Rattle.judge.specs.Judge.{wordsPart, accepted, isTable, tableIn}
 use Rattle.encode.specs.declared.Encoded.{Encoded}
 use Rattle.encode.specs.declared.Encoded.the-variants.{Words, Refused}
 use Rattle.encode.specs.Encode.{Spans, said, refused, encodeOf, outOf}

@@ -10,7 +10,8 @@ use lib.Dec.{eqb}
 use lib.ListN.{length, getD, take, drop, length-take, length-drop}
 use Rattle.refusal.specs.declared.Refusal.{Refusal}
 use Rattle.refusal.specs.Said.{NOT-TABLE, LIMIT, ROOM, INDEX}
-use Rattle.refusal.specs.Lists.{pick}
+use Rattle.refusal.proofs.Lists.{and-split, same-equal, equal-same}
+use Rattle.refusal.specs.Lists.{pick, sameList}
 use Rattle.words.specs.declared.Place.{Place}
 use Rattle.words.specs.declared.Place.the-variants.{Next, Refused}
 use Rattle.layout.specs.declared.Sections.{Sections}
@@ -26,8 +27,8 @@ use Rattle.codec.specs.declared.Decoded.the-variants as decoded
 use Rattle.codec.specs.declared.Decoded.the-variants.{Table}
 use Rattle.codec.specs.Decode.{judged, decodedFrom, keptFrom}
 use Rattle.judge.specs.Standing.{standsAt, standing, emptyFrom, emptyBehind, fourStand, eightStand, flagsPlain, filled, sound}
-use Rattle.judge.specs.Judge.{wordsPart, Part, sameList, accepted, isTable, tableIn}
-use Rattle.judge.proofs.Stood.{both-true, moved, alike, stands-in, cons-stands, cons-stood, append-stands, append-stood, stood-next, stood-is, stands-part, whole-stood, whole-stands, same-equal, equal-same}
+use Rattle.judge.specs.Judge.{wordsPart, Part, accepted, isTable, tableIn}
+use Rattle.judge.proofs.Stood.{moved, alike, stands-in, cons-stands, cons-stood, append-stands, append-stood, stood-next, stood-is, stands-part, whole-stood, whole-stands}
 use Rattle.judge.proofs.Plain.{plain-made, made-plain}
 
 -- The places of the sections
@@ -49,9 +50,9 @@ module _ (m s r a n : ℕ) (d : List ℕ) where
   four-stands : fourStand m s r a n d ≡ true → standing (four m s r a) n d ≡ Next (n + 4)
   unfolding fourStand
   four-stands h =
-      let k = both-true _ (standsAt (a + 9) (n + 3) d) h in
-      let j = both-true _ (standsAt (r + 9) (n + 2) d) (k .0) in
-      let i = both-true (standsAt (m + 9) n d) (standsAt (s + 9) (n + 1) d) (j .0) in
+      let k = and-split _ (standsAt (a + 9) (n + 3) d) h in
+      let j = and-split _ (standsAt (r + 9) (n + 2) d) (k .0) in
+      let i = and-split (standsAt (m + 9) n d) (standsAt (s + 9) (n + 1) d) (j .0) in
       let t₃ = cons-stands (a + 9) [] (n + 3) d (k .1) (none-stands (n + 3 + 1) d ∙ ap Next last) in
       let t₂ = cons-stands (r + 9) _ (n + 2) d (j .1) (moved _ d (n + 2 + 1) (n + 3) three t₃) in
       let t₁ = cons-stands (s + 9) _ (n + 1) d (i .1) (moved _ d (n + 1 + 1) (n + 2) two t₂) in
@@ -87,9 +88,9 @@ module _ (w d : List ℕ) (part : w ≡ wordsPart d) (limit : length w ≤ 8192)
     to : filled w m s r a v x e c d ≡ true → padded (length d) all ≡ d
     unfolding filled eightStand numbers header body emptyBehind
     to h =
-        let i = both-true (eightStand m s r a v x e c d) _ h in
-        let j = both-true (flagsPlain w x c) _ (i .1) in
-        let f = both-true (fourStand m s r a 1 d) (fourStand v x e c 5 d) (i .0) in
+        let i = and-split (eightStand m s r a v x e c d) _ h in
+        let j = and-split (flagsPlain w x c) _ (i .1) in
+        let f = and-split (fourStand m s r a 1 d) (fourStand v x e c 5 d) (i .0) in
         let head = cons-stands (length w) (four m s r a ++ four v x e c) 0 d (stands-in (length w) 0 d (omega arith) count-is)
         (append-stands (four m s r a) (four v x e c) 1 d (four-stands m s r a 1 d (f .0)) (four-stands v x e c 5 d (f .1))) in
         let same = plain-made l (j .0) in

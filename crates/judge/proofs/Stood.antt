@@ -5,11 +5,12 @@ use native.Mathlib.Numerals.{add-one}
 use native.Mathlib.Omega.{arith}
 use mathlib.Core.Path.{_≡_, refl, sym, ap, _∙_}
 use mathlib.Core.List.{List, [], _∷_, _++_}
-use mathlib.Core.Bool.{Bool, true, false, _&&_}
+use mathlib.Core.Bool.{Bool, true, false}
 use lib.Dec.{ltb, eqb}
 use lib.ListN.{length, getD, take, drop, length-drop, take-append-drop, drop-of-length-le}
 use lib.Seq.{drop-cons, take-append-seam, drop-append-seam}
 use borrow.Author.Tests.{ltb-true, ltb-false, lt-ltb, eqb-true, eq-eqb}
+use Rattle.refusal.proofs.Lists.{and-split}
 use Rattle.refusal.specs.Said.{NOT-TABLE}
 use Rattle.refusal.specs.Lists.{pick, every}
 use Rattle.words.specs.declared.Place.{Place}
@@ -18,14 +19,9 @@ use Rattle.words.specs.Parse as parse
 use Rattle.words.specs.Parse.{andThen}
 use Rattle.written.specs.Over.{zeros, padded}
 use Rattle.judge.specs.Standing.{standsAt, standing, emptyFrom}
-use Rattle.judge.specs.Judge.{sameList}
 use Rattle.judge.proofs.Comparing.{standing-append}
 
 -- Tests
-
-pub both-true : (a b : Bool) → (a && b) ≡ true → (a ≡ true) × (b ≡ true)
-both-true true b h = (refl, h)
-both-true false b h = let z : _≡_ {A = ℕ} 0 1 = cc in absurd (omega arith)
 
 -- two tests that hold together are one
 pub alike : (a b : Bool) → (a ≡ true → b ≡ true) → (b ≡ true → a ≡ true) → a ≡ b
@@ -48,7 +44,7 @@ stands-in x n d h e = rw (lt-ltb n (length d) h, eq-eqb (getD d n 0) x e)
 
 pub stands-is : (x n : ℕ) (d : List ℕ) → standsAt x n d ≡ true → (n < length d) × (getD d n 0 ≡ x)
 unfolding standsAt
-stands-is x n d h = let s = both-true (ltb n (length d)) (eqb (getD d n 0) x) h in (ltb-true _ _ (s .0), eqb-true _ _ (s .1))
+stands-is x n d h = let s = and-split (ltb n (length d)) (eqb (getD d n 0) x) h in (ltb-true _ _ (s .0), eqb-true _ _ (s .1))
 
 -- A list, number by number
 
@@ -117,7 +113,7 @@ every-zero : (l : List ℕ) → every (λ x. eqb x 0) l ≡ true → l ≡ zeros
 unfolding every
 every-zero [] h = refl
 every-zero (x ∷ l) h =
-    let s = both-true (eqb x 0) (every (λ x. eqb x 0) l) h in
+    let s = and-split (eqb x 0) (every (λ x. eqb x 0) l) h in
     let e : x ≡ 0 = eqb-true x 0 (s .0) in
     let r = every-zero l (s .1) in
     ap (λ (n : ℕ). n ∷ l) e ∙ ap (λ (k : List ℕ). 0 ∷ k) r
@@ -144,21 +140,3 @@ whole-stands xs d h =
     let j : drop (length xs) d ≡ z = ap (drop (length xs)) (sym h) ∙ drop-append-seam xs z in
     let k : 0 + length xs ≡ length xs = omega arith in
     (stands-part xs 0 d i ∙ ap Next k, rw j (zeros-every (length d - length xs)))
-
--- The same list
-
-pub same-equal : (xs ys : List ℕ) → sameList xs ys ≡ true → xs ≡ ys
-unfolding sameList
-same-equal [] [] h = refl
-same-equal [] (y ∷ ys) h = let z : _≡_ {A = ℕ} 0 1 = cc in absurd (omega arith)
-same-equal (x ∷ xs) [] h = let z : _≡_ {A = ℕ} 0 1 = cc in absurd (omega arith)
-same-equal (x ∷ xs) (y ∷ ys) h =
-    let s = both-true (eqb x y) (sameList xs ys) h in
-    let e : x ≡ y = eqb-true x y (s .0) in
-    let r = same-equal xs ys (s .1) in
-    ap (λ (n : ℕ). n ∷ xs) e ∙ ap (λ (l : List ℕ). y ∷ l) r
-
-pub equal-same : (xs : List ℕ) → sameList xs xs ≡ true
-unfolding sameList
-equal-same [] = refl
-equal-same (x ∷ xs) = rw (eq-eqb x x refl) (equal-same xs)

@@ -2,12 +2,11 @@
 -- accepted words". Assumes nothing.
 use Prim.Native.Nat.{ℕ, _≤_}
 use mathlib.Core.Path.{_≡_}
-use mathlib.Core.List.{List, [], _∷_}
+use mathlib.Core.List.{List}
 use mathlib.Core.Bool.{Bool, true, false, _&&_}
 use lib.ListN.{length, getD, take, drop}
-use lib.Dec.{eqb}
 use Rattle.refusal.specs.Said.{NOT-TABLE}
-use Rattle.refusal.specs.Lists.{pick}
+use Rattle.refusal.specs.Lists.{pick, sameList}
 use Rattle.layout.specs.declared.Sections.{Sections}
 use Rattle.layout.specs.Layout.{unfound, layoutOf}
 use Rattle.codec.specs.declared.Decoded.{Decoded}
@@ -23,13 +22,6 @@ pub record Part (w d : List ℕ) : Type 0 where
   pub is : w ≡ wordsPart d
   pub limit : length w ≤ 8192
   pub room : 16384 ≤ length d
-
--- two lists are the same, number for number
-unfoldable pub sameList : List ℕ → List ℕ → Bool
-sameList [] [] = true
-sameList [] (y ∷ ys) = false
-sameList (x ∷ xs) [] = false
-sameList (x ∷ xs) (y ∷ ys) = eqb x y && sameList xs ys
 
 abbrev pub accepted : Decoded → Bool
 accepted (Table modes states words) = true

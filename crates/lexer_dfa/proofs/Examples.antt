@@ -5,7 +5,7 @@ use mathlib.Core.List.{List, [], _∷_}
 use lib.ListN.{replicate}
 use Rattle.refusal.specs.Said.{ok, no}
 use Rattle.refusal.specs.Lists as lists
-use Rattle.refusal.specs.Lists.{some, before}
+use Rattle.refusal.specs.Lists.{some, before, sameList, firstEqual}
 use Rattle.ascii_range.specs.Ranges.{joined, rangesFrom, upToFour, inRanges}
 use Rattle.range_class.specs.Class.{upFrom}
 use Rattle.ascii_run.specs.Shape.{held}
@@ -28,7 +28,7 @@ use Rattle.segments.specs.Segments.{insert, cutSpans, cutAll, cutsOf, startsFro
 use Rattle.segments.specs.Segments as cuts
 use Rattle.segments.specs.Answer as of-segments
 use Rattle.segments.specs.Answer.{parseFor, segmentsIn}
-use Rattle.masks.specs.Masks.{wordOf, pack, maskOf, masksAt, flat, isZero, eqList, index, addNew, distinct}
+use Rattle.masks.specs.Masks.{wordOf, pack, maskOf, masksAt, flat, isZero, addNew, distinct}
 use Rattle.masks.specs.Answer as of-masks
 use Rattle.masks.specs.Answer.{parseMasks, parseDistinct, masksIn}
 use Rattle.table.specs.Table.{each}
@@ -40,7 +40,7 @@ use Rattle.rows.specs.Answer.{withRows, asciiIn, wideIn}
 use Rattle.lexer_dfa.specs.Sheet.{_says_, transitions, Right, rowOn, sheet}
 
 pub sheet-right : Right sheet
-unfolding rowOn upFrom some before joined rangesFrom upToFour inRanges held exitsFrom byRanges byExits classified stops scanSaid lists.every orField shortRun readAt fields any target start block word andThen many section both onward layoutOf laidOut decodedFrom judged everyFrom walk every everyIn good noneOr present stateGood targets classifiedWords stands runGood bothGood wideGood escapeGood firstBroken padded anyHas holds holdAt orderly inOrder clip clips gaps intervals allIntervals sizeAt numberAt pairsAt shapeOf transOf bodyAt recordAt more of-list.onward parseFrom insert cutSpans cutAll cutsOf cuts.starts startsFrom cuts.segments segmentsFrom of-segments.counted parseFor segmentsIn wordOf pack maskOf masksAt flat isZero eqList index addNew distinct of-masks.counted parseMasks parseDistinct masksIn each goalAt rowFrom rowOver joinTo join partFrom values given targetRow contRow of-rows.counted withRows asciiIn wideIn
+unfolding rowOn upFrom some before joined rangesFrom upToFour inRanges held exitsFrom byRanges byExits classified stops scanSaid lists.every orField shortRun readAt fields any target start block word andThen many section both onward layoutOf laidOut decodedFrom judged everyFrom walk every everyIn good noneOr present stateGood targets classifiedWords stands runGood bothGood wideGood escapeGood firstBroken padded anyHas holds holdAt orderly inOrder clip clips gaps intervals allIntervals sizeAt numberAt pairsAt shapeOf transOf bodyAt recordAt more of-list.onward parseFrom insert cutSpans cutAll cutsOf cuts.starts startsFrom cuts.segments segmentsFrom of-segments.counted parseFor segmentsIn wordOf pack maskOf masksAt flat isZero sameList firstEqual addNew distinct of-masks.counted parseMasks parseDistinct masksIn each goalAt rowFrom rowOver joinTo join partFrom values given targetRow contRow of-rows.counted withRows asciiIn wideIn
 sheet-right = (refl, (refl, (refl, (refl, (refl, (refl, (refl, (refl, (refl, (refl, (refl, (refl, (refl, (refl, (refl, (refl, (refl, tt)))))))))))))))))
 
 -- "256 transitions pass; 257: 4": so many wildcards

@@ -2,12 +2,13 @@
 use Prim.Native.Nat.{ℕ}
 use mathlib.Core.Path.{_≡_, refl}
 use mathlib.Core.List.{List, [], _∷_}
+use Rattle.refusal.specs.Lists.{sameList, firstEqual}
 use Rattle.transitions.specs.Transition.{Transition, Pair, set, key, anyHas, holds, holdAt, orderly, inOrder}
 use Rattle.transitions.specs.Intervals.{clip, clips, intervals, allIntervals}
 use Rattle.transitions.specs.Bytes.{sizeAt, numberAt, pairsAt, shapeOf, transOf}
 use Rattle.transitions.specs.Read.{bodyAt, recordAt, parsed, more, onward, parseFrom, parse}
 use Rattle.segments.specs.Segments.{insert, cutSpans, cutAll, cutsOf, starts, startsFrom, segments, segmentsFrom}
-use Rattle.masks.specs.Masks.{wordOf, pack, maskOf, masksAt, matrix, isZero, eqList, index, addNew, distinct, distinctOf}
+use Rattle.masks.specs.Masks.{wordOf, pack, maskOf, masksAt, matrix, isZero, addNew, distinct, distinctOf}
 
 abbrev pub bytes : List ℕ
 bytes =
@@ -35,5 +36,5 @@ unfolding masksAt maskOf starts startsFrom insert cutSpans cutAll cutsOf clip cl
 two-masks = refl
 
 pub two-distinct : distinctOf two ≡ (3 ∷ []) ∷ (1 ∷ []) ∷ (2 ∷ []) ∷ []
-unfolding masksAt maskOf starts startsFrom insert cutSpans cutAll cutsOf clip clips intervals allIntervals holds holdAt anyHas wordOf pack isZero eqList index addNew distinct
+unfolding masksAt maskOf starts startsFrom insert cutSpans cutAll cutsOf clip clips intervals allIntervals holds holdAt anyHas wordOf pack isZero sameList firstEqual addNew distinct
 two-distinct = refl

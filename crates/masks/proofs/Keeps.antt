@@ -6,25 +6,21 @@ use mathlib.Core.List.{List, [], _∷_, _++_}
 use native.Mathlib.Omega.{arith}
 use lib.ListN.{length, length-append}
 use lib.Dec.{ltb}
-use borrow.Author.Tests.{eq-eqb, lt-ltb, le-ltb}
-use Rattle.refusal.specs.Lists.{pick}
+use borrow.Author.Tests.{lt-ltb, le-ltb}
+use Rattle.refusal.proofs.Lists.{equal-same}
+use Rattle.refusal.specs.Lists.{pick, sameList, firstEqual}
 use Rattle.refusal.specs.Fixed.{NONE}
 use Rattle.transitions.proofs.Order.{le-cases}
-use Rattle.masks.specs.Masks.{isZero, eqList, index, addNew, distinct, placeOf}
-
-eqList-refl : (xs : List ℕ) → eqList xs xs ≡ true
-unfolding eqList
-eqList-refl [] = refl
-eqList-refl (x ∷ xs) = rw (eq-eqb x x refl) (eqList-refl xs)
+use Rattle.masks.specs.Masks.{isZero, index, addNew, distinct, placeOf}
 
 -- m has a place among the masks
 abbrev pub Has : List (List ℕ) → List ℕ → Type 0
 Has ds m = index ds m < length ds
 
 pub index-snoc : (ds es : List (List ℕ)) (m : List ℕ) → Has ds m → index (ds ++ es) m ≡ index ds m
-unfolding index
+unfolding firstEqual
 index-snoc [] es m h = absurd (omega arith)
-index-snoc (d ∷ ds) es m h = go (eqList d m) h (λ k. index-snoc ds es m k)
+index-snoc (d ∷ ds) es m h = go (sameList d m) h (λ k. index-snoc ds es m k)
   where
     go : (t : Bool) → pick t 0 (suc (index ds m)) < suc (length ds) → (Has ds m → index (ds ++ es) m ≡ index ds m) → pick t 0 (suc (index (ds ++ es) m)) ≡ pick t 0 (suc (index ds m))
     go true k ih = refl
@@ -34,9 +30,9 @@ has-append : (ds es : List (List ℕ)) (m : List ℕ) → Has ds m → Has (ds +
 has-append ds es m h = omega (arith, index-snoc ds es m h, length-append ds es)
 
 has-last : (ds : List (List ℕ)) (m : List ℕ) → Has (ds ++ (m ∷ [])) m
-unfolding index
-has-last [] m = rw (eqList-refl m) (omega arith)
-has-last (d ∷ ds) m = go (eqList d m) (has-last ds m)
+unfolding firstEqual
+has-last [] m = rw (equal-same m) (omega arith)
+has-last (d ∷ ds) m = go (sameList d m) (has-last ds m)
   where
     go : (t : Bool) → Has (ds ++ (m ∷ [])) m → pick t 0 (suc (index (ds ++ (m ∷ [])) m)) < suc (length (ds ++ (m ∷ [])))
     go true k = omega arith
@@ -64,9 +60,9 @@ has-distinct-keep ds [] m h = h
 has-distinct-keep ds (x ∷ ms) m h = has-distinct-keep (addNew ds x) ms m (has-keep ds x m h)
 
 pub index-last : (ds : List (List ℕ)) (m : List ℕ) → length ds ≤ index ds m → index (ds ++ (m ∷ [])) m ≡ length ds
-unfolding index
-index-last [] m h = rw (eqList-refl m)
-index-last (d ∷ ds) m h = go (eqList d m) h (λ k. index-last ds m k)
+unfolding firstEqual
+index-last [] m h = rw (equal-same m)
+index-last (d ∷ ds) m h = go (sameList d m) h (λ k. index-last ds m k)
   where
     go : (t : Bool) → suc (length ds) ≤ pick t 0 (suc (index ds m)) → (length ds ≤ index ds m → index (ds ++ (m ∷ [])) m ≡ length ds) →
         pick t 0 (suc (index (ds ++ (m ∷ [])) m)) ≡ suc (length ds)

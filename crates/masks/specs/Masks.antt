@@ -1,11 +1,11 @@
 -- Masks: which transitions of a list hold a segment, as 64-bit words (document 01, "Transitions, segments, rows"). ts is the list, p a point,
 -- m a mask, its words from the lowest. Assumes nothing.
 use Prim.Native.Nat.{ℕ, zero, suc, _+_, _*_, _/_}
-use mathlib.Core.Bool.{Bool, true, false, _&&_}
+use mathlib.Core.Bool.{Bool, true, _&&_}
 use mathlib.Core.List.{List, [], _∷_, _++_}
 use lib.ListN.{length, take, drop}
 use lib.Dec.{eqb, ltb}
-use Rattle.refusal.specs.Lists.{pick}
+use Rattle.refusal.specs.Lists.{pick, firstEqual}
 use Rattle.refusal.specs.Fixed.{NONE}
 use Rattle.transitions.specs.Transition.{Transition, holdAt}
 use Rattle.segments.specs.Segments.{cutsOf, starts}
@@ -49,16 +49,9 @@ unfoldable pub isZero : List ℕ → Bool
 isZero [] = true
 isZero (w ∷ ws) = eqb w 0 && isZero ws
 
-unfoldable pub eqList : List ℕ → List ℕ → Bool
-eqList [] [] = true
-eqList [] (y ∷ ys) = false
-eqList (x ∷ xs) [] = false
-eqList (x ∷ xs) (y ∷ ys) = eqb x y && eqList xs ys
-
 -- the place of the first equal mask, or how many there are
-unfoldable pub index : List (List ℕ) → List ℕ → ℕ
-index [] m = 0
-index (d ∷ ds) m = pick (eqList d m) 0 (suc (index ds m))
+abbrev pub index : List (List ℕ) → List ℕ → ℕ
+index ds m = firstEqual m ds
 
 -- "Distinct nonzero masks come in order of first segment": each is put behind those before it, unless it is empty or stands there
 unfoldable pub addNew : List (List ℕ) → List ℕ → List (List ℕ)

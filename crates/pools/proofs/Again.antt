@@ -8,10 +8,11 @@ use mathlib.Core.List.{List, [], _∷_, _++_}
 use lib.Dec.{ltb}
 use lib.ListN.{length, take, drop, length-append, length-drop, take-append-drop, List·getD-append}
 use lib.Seq.{take-append-le, drop-append-le, take-append-seam, drop-append-seam, getD-append-seam, length-take-le}
-use borrow.Author.Tests.{eq-eqb, eqb-true, lt-ltb, le-ltb}
-use Rattle.refusal.specs.Lists.{pick}
+use borrow.Author.Tests.{eqb-true, lt-ltb, le-ltb}
+use Rattle.refusal.proofs.Lists.{equal-same}
+use Rattle.refusal.specs.Lists.{pick, sameList, firstEqual}
 use Rattle.written.specs.Over.{over, lay}
-use Rattle.pools.specs.Pools.{Kind, ascii, wide, standing, sizeAt, rowsFrom, behind, same, firstEqual, good, countable, found, firstIn, findOrAppend, intern}
+use Rattle.pools.specs.Pools.{Kind, ascii, wide, standing, sizeAt, rowsFrom, behind, good, countable, found, firstIn, findOrAppend, intern}
 use Rattle.pools.proofs.Rows.{behind-≥, threes-length}
 
 -- Rows in the front p of a pool, whatever stands behind it
@@ -59,16 +60,11 @@ module _ (k : Kind) (w : List ℕ) where
   rows-length zero at = refl
   rows-length (suc n) at = ap suc (rows-length n (at + sizeAt k w at))
 
-same-self : (xs : List ℕ) → same xs xs ≡ true
-unfolding same
-same-self [] = refl
-same-self (x ∷ xs) = rw (eq-eqb x x refl) (same-self xs)
-
 -- a row that equals none before it is found where it stands
 first-last : (row : List ℕ) (rs : List (List ℕ)) → length rs ≤ firstEqual row rs → firstEqual row (rs ++ (row ∷ [])) ≡ length rs
 unfolding firstEqual
-first-last row [] h = rw (same-self row)
-first-last row (r ∷ rs) h = cases (same r row) h (first-last row rs) where
+first-last row [] h = rw (equal-same row)
+first-last row (r ∷ rs) h = cases (sameList r row) h (first-last row rs) where
   cases : (t : Bool) → suc (length rs) ≤ pick t 0 (suc (firstEqual row rs)) → (length rs ≤ firstEqual row rs → firstEqual row (rs ++ (row ∷ [])) ≡ length rs) →
       pick t 0 (suc (firstEqual row (rs ++ (row ∷ [])))) ≡ suc (length rs)
   cases true k r = absurd (omega arith)

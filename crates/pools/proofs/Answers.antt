@@ -9,12 +9,13 @@ use lib.Dec.{ltb}
 use lib.ListN.{length, getD}
 use borrow.Author.Needs.{needs}
 use borrow.Author.Tests.{lt-ltb, le-ltb, le-leb, lt-leb, eq-eqb, ne-eqb}
+use Rattle.refusal.specs.Lists.{firstEqual}
 use Rattle.refusal.specs.Said.{Said, ok, no, FIELD, ROOM, NOT-TABLE}
 use Rattle.refusal.specs.Fixed.{NONE}
 use Rattle.written.specs.Over.{Put}
 use Rattle.pools.specs.declared.Interned.{Interned}
 use Rattle.pools.specs.declared.Interned.the-variants.{At, Refused}
-use Rattle.pools.specs.Pools.{Kind, ascii, wide, standing, rowsFrom, behind, firstEqual, inThrees, good, countable, append, firstIn, findOrAppend, intern, said, Interns}
+use Rattle.pools.specs.Pools.{Kind, ascii, wide, standing, rowsFrom, behind, inThrees, good, countable, append, firstIn, findOrAppend, intern, said, Interns}
 use Rattle.pools.proofs.Rows.{threes-length}
 
 -- ascii rows end at a multiple of their size

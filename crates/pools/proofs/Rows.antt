@@ -14,22 +14,23 @@ use mir.Syntax.{w64}
 use mir.Val.{Fits}
 use borrow.Author.Needs.{needs}
 use borrow.Author.Tests.{eq-eqb, ne-eqb, eqb-true, eqb-false, le-leb, lt-leb}
+use Rattle.refusal.specs.Lists.{sameList, firstEqual}
 use Rattle.written.specs.Over.{Put}
 use Rattle.written.proofs.Going.{Going, going-start, going-done, going-place, going-put, put-one, put-size-1}
-use Rattle.pools.specs.Pools.{Kind, ascii, wide, sizeAt, rowsFrom, behind, same, firstEqual, inThrees}
+use Rattle.pools.specs.Pools.{Kind, ascii, wide, sizeAt, rowsFrom, behind, inThrees}
 
 -- Comparing a row with n numbers of w from a place on: what is left at j
 
 unfoldable pub sameFrom : ℕ → List ℕ → ℕ → List ℕ → ℕ → Bool
-sameFrom n w at row j = same (take (n - j) (drop (at + j) w)) (drop j row)
+sameFrom n w at row j = sameList (take (n - j) (drop (at + j) w)) (drop j row)
 
-pub same-begins : (n : ℕ) (w : List ℕ) (at : ℕ) (row : List ℕ) → sameFrom n w at row 0 ≡ same (take n (drop at w)) row
+pub same-begins : (n : ℕ) (w : List ℕ) (at : ℕ) (row : List ℕ) → sameFrom n w at row 0 ≡ sameList (take n (drop at w)) row
 unfolding sameFrom
 same-begins n w at row = rw (sub-zero, add-zero)
 
 module _ (n : ℕ) (w : List ℕ) (at : ℕ) (row : List ℕ) (j : ℕ) {all : Bool} (i : sameFrom n w at row j ≡ all) where
   split : j < length row → at + n ≤ length w → length row ≡ n → sameFrom n w at row j ≡ (eqb (getD w (at + j) 0) (getD row j 0) && sameFrom n w at row (j + 1))
-  unfolding sameFrom same
+  unfolding sameFrom sameList
   split h r l =
       let one : suc j ≡ j + 1 = omega arith in
       let next : suc (at + j) ≡ at + (j + 1) = omega arith in
@@ -43,7 +44,7 @@ module _ (n : ℕ) (w : List ℕ) (at : ℕ) (row : List ℕ) (j : ℕ) {all : B
   same-stop h r l e = sym (split h r l ∙ rw (ne-eqb (getD w (at + j) 0) (getD row j 0) e)) ∙ i
 
   pub same-done : length row ≤ j → j ≤ length row → length row ≡ n → true ≡ all
-  unfolding sameFrom same
+  unfolding sameFrom sameList
   same-done h g l =
       let here : j ≡ length row = omega arith in
       let none : n - j ≡ 0 = omega arith in
@@ -55,21 +56,21 @@ pub ruleset comparing = (needs, same-begins, same-turn, same-stop, same-done)
 -- A wide row is compared by its count first
 
 module _ (w : List ℕ) (at x : ℕ) (row : List ℕ) (h : at + sizeAt wide w at ≤ length w) where
-  wide-split : same (take (sizeAt wide w at) (drop at w)) (x ∷ row) ≡ (eqb (getD w at 0) x && same (take (getD w at 0 * 3) (drop (at + 1) w)) row)
-  unfolding same
+  wide-split : sameList (take (sizeAt wide w at) (drop at w)) (x ∷ row) ≡ (eqb (getD w at 0) x && sameList (take (getD w at 0 * 3) (drop (at + 1) w)) row)
+  unfolding sameList
   wide-split =
       let one : suc at ≡ at + 1 = omega arith in
       let size : sizeAt wide w at ≡ suc (getD w at 0 * 3) = omega arith in
       rw (size, drop-cons w at 0 (omega arith), one)
 
-  pub wide-differ : (getD w at 0 ≡ x → ⊥) → false ≡ same (take (sizeAt wide w at) (drop at w)) (x ∷ row)
+  pub wide-differ : (getD w at 0 ≡ x → ⊥) → false ≡ sameList (take (sizeAt wide w at) (drop at w)) (x ∷ row)
   wide-differ n = sym (wide-split ∙ rw (ne-eqb (getD w at 0) x n))
 
-  pub wide-same : {t : Bool} → getD w at 0 ≡ x → length row ≡ x * 3 → t ≡ same (take (length row) (drop (at + 1) w)) row →
-      t ≡ same (take (sizeAt wide w at) (drop at w)) (x ∷ row)
+  pub wide-same : {t : Bool} → getD w at 0 ≡ x → length row ≡ x * 3 → t ≡ sameList (take (length row) (drop (at + 1) w)) row →
+      t ≡ sameList (take (sizeAt wide w at) (drop at w)) (x ∷ row)
   wide-same e l f =
       let n : length row ≡ getD w at 0 * 3 = omega arith in
-      f ∙ ap (λ (m : ℕ). same (take m (drop (at + 1) w)) row) n ∙ sym (wide-split ∙ rw (eq-eqb (getD w at 0) x e))
+      f ∙ ap (λ (m : ℕ). sameList (take m (drop (at + 1) w)) row) n ∙ sym (wide-split ∙ rw (eq-eqb (getD w at 0) x e))
 
   pub wide-rest : getD w at 0 ≡ x → length row ≡ x * 3 → at + 1 + length row ≤ length w
   wide-rest e l = omega arith
@@ -100,13 +101,13 @@ module _ (k : Kind) (w : List ℕ) (left at : ℕ) {e : ℕ} (b : behind k w lef
   rows-within h n = rw (n, ← behind-open k w left at h) b
 
 module _ (k : Kind) (w row : List ℕ) (left at i : ℕ) {all : ℕ} (g : i + firstEqual row (rowsFrom k w left at) ≡ all) where
-  pub first-here : {t : Bool} → 0 < left → t ≡ same (take (sizeAt k w at) (drop at w)) row → t ≡ true → i ≡ all
+  pub first-here : {t : Bool} → 0 < left → t ≡ sameList (take (sizeAt k w at) (drop at w)) row → t ≡ true → i ≡ all
   unfolding firstEqual
   first-here h e f =
       let o : firstEqual row (rowsFrom k w left at) ≡ 0 = rw (rows-open k w left at h, sym e ∙ f) in
       omega arith
 
-  pub first-next : {t : Bool} {next : ℕ} → 0 < left → t ≡ same (take (sizeAt k w at) (drop at w)) row → t ≡ false → next ≡ at + sizeAt k w at →
+  pub first-next : {t : Bool} {next : ℕ} → 0 < left → t ≡ sameList (take (sizeAt k w at) (drop at w)) row → t ≡ false → next ≡ at + sizeAt k w at →
       i + 1 + firstEqual row (rowsFrom k w (left - 1) next) ≡ all
   unfolding firstEqual
   first-next h e f n =

@@ -7,7 +7,7 @@ use mathlib.Core.List.{List, [], _∷_}
 use lib.Dec.{ltb, leb, eqb}
 use lib.ListN.{length, getD, take, drop}
 use Rattle.refusal.specs.Said.{Said, ok, no, FIELD, ROOM, NOT-TABLE}
-use Rattle.refusal.specs.Lists.{pick}
+use Rattle.refusal.specs.Lists.{pick, firstEqual}
 use Rattle.refusal.specs.Fixed.{NONE}
 use Rattle.written.specs.Over.{lay}
 use Rattle.pools.specs.declared.Interned.{Interned}
@@ -37,18 +37,6 @@ rowsFrom k w (suc n) at = take (sizeAt k w at) (drop at w) ∷ rowsFrom k w n (a
 unfoldable pub behind : Kind → List ℕ → ℕ → ℕ → ℕ
 behind k w zero at = at
 behind k w (suc n) at = behind k w n (at + sizeAt k w at)
-
--- two rows are equal
-unfoldable pub same : List ℕ → List ℕ → Bool
-same [] [] = true
-same [] (y ∷ ys) = false
-same (x ∷ xs) [] = false
-same (x ∷ xs) (y ∷ ys) = eqb x y && same xs ys
-
--- "the place of the first equal row": how many rows there are, where none is equal
-unfoldable pub firstEqual : List ℕ → List (List ℕ) → ℕ
-firstEqual row [] = 0
-firstEqual row (r ∷ rs) = pick (same r row) 0 (suc (firstEqual row rs))
 
 -- ranges of three numbers, whose third is a target
 unfoldable pub inThrees : List ℕ → Bool

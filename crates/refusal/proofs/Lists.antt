@@ -10,8 +10,8 @@ use lib.Dec.{eqb}
 use lib.ListN.{length, getD, take, drop, drop-of-length-le, length-take, length-drop}
 use lib.Seq.{drop-cons, drop-nil, drop-drop, take-all}
 use borrow.Author.Needs.{needs}
-use borrow.Author.Tests.{eq-eqb, ne-eqb}
-use Rattle.refusal.specs.Lists.{pick, before}
+use borrow.Author.Tests.{eq-eqb, ne-eqb, eqb-true}
+use Rattle.refusal.specs.Lists.{pick, before, sameList}
 
 -- two tests that hold together
 pub and-split : (a b : Bool) → (a && b) ≡ true → (a ≡ true) × (b ≡ true)
@@ -184,3 +184,21 @@ pub ruleset searching = (needs, halts, passes, ends, halts-by, passes-by, eq-eqb
 pub ruleset searching-least = (needs, least-begins, least-goes, least-ends)
 
 pub ruleset searching-parts = (needs, part-length, last-length, part-halts, part-passes, part-ends)
+
+-- Lists that are the same
+
+pub same-equal : (xs ys : List ℕ) → sameList xs ys ≡ true → xs ≡ ys
+unfolding sameList
+same-equal [] [] h = refl
+same-equal [] (y ∷ ys) h = let z : _≡_ {A = ℕ} 0 1 = cc in absurd (omega arith)
+same-equal (x ∷ xs) [] h = let z : _≡_ {A = ℕ} 0 1 = cc in absurd (omega arith)
+same-equal (x ∷ xs) (y ∷ ys) h =
+    let s = and-split (eqb x y) (sameList xs ys) h in
+    let e : x ≡ y = eqb-true x y (s .0) in
+    let r = same-equal xs ys (s .1) in
+    ap (λ (n : ℕ). n ∷ xs) e ∙ ap (λ (l : List ℕ). y ∷ l) r
+
+pub equal-same : (xs : List ℕ) → sameList xs xs ≡ true
+unfolding sameList
+equal-same [] = refl
+equal-same (x ∷ xs) = rw (eq-eqb x x refl) (equal-same xs)

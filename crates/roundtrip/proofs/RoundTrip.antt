@@ -10,7 +10,8 @@ use lib.ListN.{length, getD, take, length-map, length-append, length-replicate}
 use lib.Seq.{take-at}
 use borrow.Author.Tests.{le-ltb, eqb-true, eq-eqb}
 use Rattle.refusal.specs.Said.{INDEX}
-use Rattle.refusal.specs.Lists.{pick}
+use Rattle.refusal.proofs.Lists.{and-split, same-equal, equal-same}
+use Rattle.refusal.specs.Lists.{pick, sameList}
 use Rattle.layout.specs.declared.Sections.{Sections}
 use Rattle.layout.specs.declared.Sections.the-variants.{Found, Unfound}
 use Rattle.rules.specs.Rules.{broken}
@@ -21,8 +22,7 @@ use Rattle.room.proofs.Sizes.{numbers-length}
 use Rattle.codec.specs.declared.Decoded.the-variants as decoded
 use Rattle.codec.specs.Decode.{judged, decodedFrom, decodeOf, keptFrom, roomOf}
 use Rattle.codec.proofs.Decoding.{kept}
-use Rattle.judge.specs.Judge.{wordsPart, sameList, accepted, isTable}
-use Rattle.judge.proofs.Stood.{both-true, same-equal, equal-same}
+use Rattle.judge.specs.Judge.{wordsPart, accepted, isTable}
 use Rattle.encode.specs.declared.Encoded.the-variants.{Words}
 use Rattle.encode.specs.Encode.{encodeOf, outOf}
 use Rattle.table.specs.Table.{Table, Fields, All, wordsOf, runWords, wideWords, acceptWords, escapeWords, continuationWords}
@@ -164,7 +164,7 @@ round-trip w n f h =
 pub own-words : (d : List ℕ) → isTable d ≡ true → Left (wordsPart d) d
 unfolding isTable
 own-words d h =
-    let s = both-true (accepted (decodeOf (wordsPart d) (length d))) (sameList (roomOf (wordsPart d) (length d)) d) h in
+    let s = and-split (accepted (decodeOf (wordsPart d) (length d))) (sameList (roomOf (wordsPart d) (length d)) d) h in
     (s .0, sym (same-equal (roomOf (wordsPart d) (length d)) d (s .1)))
 
 -- and no room that decoding leaves for accepted words is refused

@@ -1,35 +1,27 @@
 -- DISTINCT LAW: every nonzero mask has its one place among the distinct masks. Assumes nothing.
 use Prim.Native.Nat.{ℕ, zero, suc, _≤_, _<_}
-use mathlib.Core.Path.{_≡_, refl, ap, ap₂, _∙_}
+use mathlib.Core.Path.{_≡_, refl, _∙_}
 use mathlib.Core.Logic.{_⊎_, inl, inr}
-use mathlib.Core.Bool.{Bool, true, false, false≢true, and-eq-true-iff}
+use mathlib.Core.Bool.{Bool, true, false}
 use mathlib.Core.List.{List, [], _∷_, _++_}
 use native.Mathlib.Omega.{arith}
 use lib.ListN.{length, getD, length-append, List·getD-append}
 use lib.Seq.{getD-append-seam}
-use lib.Dec.{eqb, ltb}
-use borrow.Author.Tests.{eqb-true, lt-ltb, le-ltb}
-use Rattle.refusal.specs.Lists.{pick}
+use lib.Dec.{ltb}
+use borrow.Author.Tests.{lt-ltb, le-ltb}
+use Rattle.refusal.proofs.Lists.{same-equal}
+use Rattle.refusal.specs.Lists.{pick, sameList, firstEqual}
 use Rattle.transitions.proofs.Order.{le-cases}
-use Rattle.masks.specs.Masks.{isZero, eqList, index, addNew, distinct}
+use Rattle.masks.specs.Masks.{isZero, index, addNew, distinct}
 use Rattle.masks.proofs.Keeps.{Has, index-snoc, has-new, has-distinct-keep, index-last}
 
-eqList-true : (xs ys : List ℕ) → eqList xs ys ≡ true → xs ≡ ys
-unfolding eqList
-eqList-true [] [] e = refl
-eqList-true [] (y ∷ ys) e = absurd (false≢true e)
-eqList-true (x ∷ xs) [] e = absurd (false≢true e)
-eqList-true (x ∷ xs) (y ∷ ys) e =
-    let both : (eqb x y ≡ true) × (eqList xs ys ≡ true) = and-eq-true-iff (eqb x y) (eqList xs ys) .0 e in
-    ap₂ {C = List ℕ} (λ a l. a ∷ l) (eqb-true x y (both .0)) (eqList-true xs ys (both .1))
-
 pub has-at : (ds : List (List ℕ)) (m : List ℕ) → Has ds m → getD ds (index ds m) [] ≡ m
-unfolding index
+unfolding firstEqual
 has-at [] m h = absurd (omega arith)
-has-at (d ∷ ds) m h = go (eqList d m) refl h (λ k. has-at ds m k)
+has-at (d ∷ ds) m h = go (sameList d m) refl h (λ k. has-at ds m k)
   where
-    go : (t : Bool) → eqList d m ≡ t → pick t 0 (suc (index ds m)) < suc (length ds) → (Has ds m → getD ds (index ds m) [] ≡ m) → getD (d ∷ ds) (pick t 0 (suc (index ds m))) [] ≡ m
-    go true e k ih = eqList-true d m e
+    go : (t : Bool) → sameList d m ≡ t → pick t 0 (suc (index ds m)) < suc (length ds) → (Has ds m → getD ds (index ds m) [] ≡ m) → getD (d ∷ ds) (pick t 0 (suc (index ds m))) [] ≡ m
+    go true e k ih = same-equal d m e
     go false e k ih = ih (omega arith)
 
 abbrev pub Among : List ℕ → List (List ℕ) → Type 0

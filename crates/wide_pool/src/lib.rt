@@ -3,8 +3,9 @@ ghost use mathlib.Core.Path.{_≡_};
 ghost use Prim.Native.Nat.{_+_, _*_, _/_, _^_, _<_, _≤_, min};
 ghost use mathlib.Core.List.{_∷_};
 ghost use lib.ListN.{length, take, drop};
+ghost use Rattle.refusal.specs.Lists.{sameList, firstEqual};
 ghost use Rattle.written.specs.Over.{Put};
-ghost use Rattle.pools.specs.Pools.{wide, sizeAt, rowsFrom, behind, same, firstEqual, inThrees, append, findOrAppend, intern, Interns};
+ghost use Rattle.pools.specs.Pools.{wide, sizeAt, rowsFrom, behind, inThrees, append, findOrAppend, intern, Interns};
 use pools::Interned;
 use pools::refuse;
 use refusal::FIELD;
@@ -39,7 +40,7 @@ fn rows_end(pool: &[u32], rows: usize) -> usize
 // Do the pool's numbers from a place on begin with these?
 fn same_ranges(pool: &[u32], at: usize, row: &[u32]) -> bool
     requires { ⌜ at + length (now row) ≤ length (now pool) ⌝ }
-    ensures { λ r. ⌜ r ≡ same (take (length (now (row .entry))) (drop at (now (pool .entry)))) (now (row .entry)) ⌝ }
+    ensures { λ r. ⌜ r ≡ sameList (take (length (now (row .entry))) (drop at (now (pool .entry)))) (now (row .entry)) ⌝ }
 {
     let mut j = 0;
     while j < row.len() {
@@ -55,7 +56,7 @@ fn same_ranges(pool: &[u32], at: usize, row: &[u32]) -> bool
 fn same_at(pool: &[u32], at: usize, count: u32, row: &[u32]) -> bool
     requires within { ⌜ at + sizeAt wide (now pool) at ≤ length (now pool) ⌝ }
     requires size { ⌜ length (now row) ≡ count * 3 ⌝ }
-    ensures { λ r. ⌜ r ≡ same (take (sizeAt wide (now (pool .entry)) at) (drop at (now (pool .entry)))) (count ∷ now (row .entry)) ⌝ }
+    ensures { λ r. ⌜ r ≡ sameList (take (sizeAt wide (now (pool .entry)) at) (drop at (now (pool .entry)))) (count ∷ now (row .entry)) ⌝ }
 {
     if pool[at] != count {
         return false;

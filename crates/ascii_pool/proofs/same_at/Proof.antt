@@ -2,14 +2,14 @@
 use Prim.Native.Nat.{_-_, _≤_}
 use mathlib.Core.Path.{_≡_}
 use lib.ListN.{length, take, drop}
-use Rattle.pools.specs.Pools.{same}
+use Rattle.refusal.specs.Lists.{sameList}
 use Rattle.pools.proofs.Rows.{sameFrom}
 use Rattle.pools.proofs.Rows.{comparing}
 use Rattle.ascii_pool.proofs.same_at.Statement.{statement}
 use Rattle.ascii_pool.proofs.same_at.Tie as tie
 
 abbrev Inv-loop : tie.InvT-loop
-Inv-loop pool at row j₀ j = (j ≤ length row) × (sameFrom 128 pool at row j ≡ same (take 128 (drop at pool)) row)
+Inv-loop pool at row j₀ j = (j ≤ length row) × (sameFrom 128 pool at row j ≡ sameList (take 128 (drop at pool)) row)
 
 abbrev μ-loop : tie.MeasureT-loop
 μ-loop pool at row j₀ j = length row - j

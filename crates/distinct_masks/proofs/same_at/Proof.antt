@@ -2,7 +2,7 @@
 use Prim.Native.Nat.{_+_, _≤_}
 use mathlib.Core.Path.{_≡_}
 use lib.ListN.{length, take, drop}
-use Rattle.masks.specs.Masks.{eqList}
+use Rattle.refusal.specs.Lists.{sameList}
 use Rattle.distinct_masks.proofs.Parts.{parts}
 use Rattle.distinct_masks.proofs.same_at.Statement.{statement}
 use Rattle.distinct_masks.proofs.same_at.Tie as tie
@@ -11,7 +11,7 @@ abbrev Inv-loop : tie.InvT-loop
 Inv-loop known p masks at words i₀ j₀ left₀ i j left =
     (i + left ≤ length known)
     × (j + left ≤ length masks)
-    × (eqList (take left (drop i known)) (take left (drop j masks)) ≡ eqList (take words (drop p known)) (take words (drop at masks)))
+    × (sameList (take left (drop i known)) (take left (drop j masks)) ≡ sameList (take words (drop p known)) (take words (drop at masks)))
 
 abbrev μ-loop : tie.MeasureT-loop
 μ-loop known p masks at words i₀ j₀ left₀ i j left = left

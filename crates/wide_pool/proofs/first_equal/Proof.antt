@@ -3,7 +3,8 @@ use Prim.Native.Nat.{_+_, _≤_}
 use mathlib.Core.Path.{_≡_}
 use mathlib.Core.List.{_∷_}
 use lib.ListN.{length}
-use Rattle.pools.specs.Pools.{wide, rowsFrom, behind, firstEqual}
+use Rattle.refusal.specs.Lists.{firstEqual}
+use Rattle.pools.specs.Pools.{wide, rowsFrom, behind}
 use Rattle.pools.proofs.Rows.{finding}
 use Rattle.wide_pool.proofs.first_equal.Statement.{statement}
 use Rattle.wide_pool.proofs.first_equal.Tie as tie

@@ -2,14 +2,14 @@
 use Prim.Native.Nat.{_-_, _≤_}
 use mathlib.Core.Path.{_≡_}
 use lib.ListN.{length, take, drop}
-use Rattle.pools.specs.Pools.{same}
+use Rattle.refusal.specs.Lists.{sameList}
 use Rattle.pools.proofs.Rows.{sameFrom}
 use Rattle.pools.proofs.Rows.{comparing}
 use Rattle.wide_pool.proofs.same_ranges.Statement.{statement}
 use Rattle.wide_pool.proofs.same_ranges.Tie as tie
 
 abbrev Inv-loop : tie.InvT-loop
-Inv-loop pool at row j₀ j = (j ≤ length row) × (sameFrom (length row) pool at row j ≡ same (take (length row) (drop at pool)) row)
+Inv-loop pool at row j₀ j = (j ≤ length row) × (sameFrom (length row) pool at row j ≡ sameList (take (length row) (drop at pool)) row)
 
 abbrev μ-loop : tie.MeasureT-loop
 μ-loop pool at row j₀ j = length row - j
