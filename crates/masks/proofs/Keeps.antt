@@ -7,7 +7,7 @@ use native.Mathlib.Omega.{arith}
 use lib.ListN.{length, length-append}
 use lib.Dec.{ltb}
 use borrow.Author.Tests.{lt-ltb, le-ltb}
-use Rattle.refusal.proofs.Lists.{equal-same}
+use Rattle.refusal.proofs.Lists.{equal-same, first-keeps}
 use Rattle.refusal.specs.Lists.{pick, sameList, firstEqual}
 use Rattle.refusal.specs.Fixed.{NONE}
 use Rattle.transitions.proofs.Order.{le-cases}
@@ -18,13 +18,7 @@ abbrev pub Has : List (List ℕ) → List ℕ → Type 0
 Has ds m = index ds m < length ds
 
 pub index-snoc : (ds es : List (List ℕ)) (m : List ℕ) → Has ds m → index (ds ++ es) m ≡ index ds m
-unfolding firstEqual
-index-snoc [] es m h = absurd (omega arith)
-index-snoc (d ∷ ds) es m h = go (sameList d m) h (λ k. index-snoc ds es m k)
-  where
-    go : (t : Bool) → pick t 0 (suc (index ds m)) < suc (length ds) → (Has ds m → index (ds ++ es) m ≡ index ds m) → pick t 0 (suc (index (ds ++ es) m)) ≡ pick t 0 (suc (index ds m))
-    go true k ih = refl
-    go false k ih = ap suc (ih (omega arith))
+index-snoc ds es m h = first-keeps m ds es h
 
 has-append : (ds es : List (List ℕ)) (m : List ℕ) → Has ds m → Has (ds ++ es) m
 has-append ds es m h = omega (arith, index-snoc ds es m h, length-append ds es)

@@ -5,13 +5,13 @@ use native.Mathlib.Numerals.{add-one}
 use native.Mathlib.Omega.{arith}
 use mathlib.Core.Path.{_≡_, refl, ap, sym, _∙_}
 use mathlib.Core.Bool.{Bool, true, false, not, _&&_}
-use mathlib.Core.List.{List, [], _∷_}
+use mathlib.Core.List.{List, [], _∷_, _++_}
 use lib.Dec.{eqb}
 use lib.ListN.{length, getD, take, drop, drop-of-length-le, length-take, length-drop}
 use lib.Seq.{drop-cons, drop-nil, drop-drop, take-all}
 use borrow.Author.Needs.{needs}
 use borrow.Author.Tests.{eq-eqb, ne-eqb, eqb-true}
-use Rattle.refusal.specs.Lists.{pick, before, sameList}
+use Rattle.refusal.specs.Lists.{pick, before, sameList, firstEqual}
 
 -- two tests that hold together
 pub and-split : (a b : Bool) → (a && b) ≡ true → (a ≡ true) × (b ≡ true)
@@ -202,3 +202,14 @@ pub equal-same : (xs : List ℕ) → sameList xs xs ≡ true
 unfolding sameList
 equal-same [] = refl
 equal-same (x ∷ xs) = rw (eq-eqb x x refl) (equal-same xs)
+
+-- the first that is the same keeps its place when more stand behind
+pub first-keeps : (xs : List ℕ) (ls more : List (List ℕ)) → firstEqual xs ls < length ls → firstEqual xs (ls ++ more) ≡ firstEqual xs ls
+unfolding firstEqual
+first-keeps xs [] more h = absurd (omega arith)
+first-keeps xs (l ∷ ls) more h = go (sameList l xs) h (first-keeps xs ls more)
+  where
+    go : (t : Bool) → pick t 0 (suc (firstEqual xs ls)) < suc (length ls) → (firstEqual xs ls < length ls → firstEqual xs (ls ++ more) ≡ firstEqual xs ls) →
+        pick t 0 (suc (firstEqual xs (ls ++ more))) ≡ pick t 0 (suc (firstEqual xs ls))
+    go true k ih = refl
+    go false k ih = ap suc (ih (omega arith))
