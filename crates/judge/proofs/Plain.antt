@@ -8,6 +8,7 @@ use lib.Dec.{eqb}
 use lib.ListN.{length, getD, take, drop, length-drop}
 use lib.Seq.{length-take-le, take-length}
 use borrow.Author.Tests.{le-leb, leb-true, eqb-true, eq-eqb}
+use Rattle.refusal.proofs.Lists.{and-split}
 use Rattle.refusal.specs.Lists.{pick}
 use Rattle.words.specs.declared.Place.{Place}
 use Rattle.words.specs.declared.Place.the-variants.{Next, Refused}
@@ -21,7 +22,7 @@ use Rattle.rules.proofs.Laws.{rest}
 use Rattle.room.specs.Room.{startsFrom, starts, each, copied, flag, renewed, acceptMade, configMade, continuationMade, laterMade, made}
 use Rattle.room.proofs.Sizes.{ordered, made-length}
 use Rattle.judge.specs.Standing.{standing, plain, acceptPlain, configPlain, continuationPlain, flagsPlain}
-use Rattle.judge.proofs.Stood.{both-true, moved, next-is, stands-in, stands-is, cons-stands, cons-stood, append-stands, append-stood, stood-is, stands-part}
+use Rattle.judge.proofs.Stood.{moved, next-is, stands-in, stands-is, cons-stands, cons-stood, append-stands, append-stood, stood-is, stands-part}
 
 -- One flag
 
@@ -74,7 +75,7 @@ module _ (read : List ℕ → ℕ → Place) (f : List ℕ → ℕ → List ℕ)
         where
           to : (test at && rest test (read w) n m) ≡ true → standing (f w at ++ each (f w) (starts (read w) n m)) at w ≡ Next p
           to h =
-              let s = both-true (test at) (rest test (read w) n m) h in
+              let s = and-split (test at) (rest test (read w) n m) h in
               append-stands (f w at) _ at w (k at m u .0 (s .0)) (rec m p v .0 (s .1))
 
           from : (q : ℕ) → standing (f w at ++ each (f w) (starts (read w) n m)) at w ≡ Next q → (q ≡ p) × ((test at && rest test (read w) n m) ≡ true)
@@ -141,7 +142,7 @@ config-agrees w s p e = (to, from)
     to : (plain (getD w (s + 2) 0) && plain (getD w (s + 3) 0)) ≡ true
         → standing (getD w s 0 ∷ getD w (s + 1) 0 ∷ flag (getD w (s + 2) 0) ∷ flag (getD w (s + 3) 0) ∷ copied w (s + 4) (getD w (s + 5) 0 * 3 + 2)) s w ≡ Next p
     to h =
-        let b = both-true (plain (getD w (s + 2) 0)) (plain (getD w (s + 3) 0)) h in
+        let b = and-split (plain (getD w (s + 2) 0)) (plain (getD w (s + 3) 0)) h in
         let l = sized in
         let i₃ = cons-stands (flag (getD w (s + 3) 0)) _ (s + 3) w (stands-in _ (s + 3) w (omega (arith, l .0, l .1)) (plain-kept (getD w (s + 3) 0) (b .1))) (moved _ w (s + 3 + 1) (s + 4) four copy) in
         let i₂ = cons-stands (flag (getD w (s + 2) 0)) _ (s + 2) w (stands-in _ (s + 2) w (omega (arith, l .0, l .1)) (plain-kept (getD w (s + 2) 0) (b .0))) (moved _ w (s + 2 + 1) (s + 3) three i₃) in
@@ -196,7 +197,7 @@ module _ {w : List ℕ} {m s r a v x e c : ℕ} (l : Laid w m s r a v x e c) whe
   pub plain-made : flagsPlain w x c ≡ true → made w x e c ≡ w
   unfolding flagsPlain made laterMade
   plain-made h =
-      let b = both-true _ _ h in
+      let b = and-split _ _ h in
       let i = section-agrees acceptAt acceptMade (acceptPlain w) w (accept-agrees w) x e (l .accepts) .0 (b .0) in
       let j = section-agrees continuationAt continuationMade (continuationPlain w) w (continuation-agrees w) c (length w) (l .continuations) .0 (b .1) in
       let k = append-stands (copied w 0 x) _ 0 w before (append-stands accepts _ x w i (append-stands (copied w e (c - e)) continuations e w between j)) in
