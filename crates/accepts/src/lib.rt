@@ -1,4 +1,5 @@
 // What a state accepts. The room may be of any length and hold any numbers.
+// The answer `AcceptRecord` is that of `accept_records` above.
 ghost use mathlib.Core.Path.{_≡_};
 ghost use Rattle.accepts.specs.Accept.{said, acceptOf};
 use room_read::Found;

@@ -103,10 +103,9 @@ module _ (b : ℕ) (h : 128 ≤ b) (at : ℕ) where
       let x = getD w at 0 in
       let long = rangesRun at (rangesOfRun x (packedAt w (at + 1))) in
       let short = shortRun at (kindOf x) (bytesOf x) in
-      let cut = refused SHORT (length w) in
-      either b (pick (eqb (kindOf x) 5) (pick (leb (at + 3) (length w)) long cut) short) cut (ltb at (length w))
-      (λ i. either b (pick (leb (at + 3) (length w)) long cut) short (eqb (kindOf x) 5)
-      (λ j. either b long cut (leb (at + 3) (length w)) (λ k. ranges-high x (packedAt w (at + 1))) (λ k. tt)) (λ j. short-high _ _ _ _))
+      let whole = leb (at + 3) (length w) in
+      either b _ _ (ltb at (length w))
+      (λ i. either b _ short (eqb (kindOf x) 5) (λ j. either b long _ whole (λ k. ranges-high x (packedAt w (at + 1))) (λ k. tt)) (λ j. short-high _ _ _ _))
       (λ i. tt)
 
 -- "until-runs stop only at their exit bytes and pass bytes of 128 and above; ranges stop there; any takes all": of every run that is read

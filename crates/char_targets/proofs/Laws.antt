@@ -1,4 +1,4 @@
--- The laws of the targets on a character: where a wide row lies, and which row serves a symbol. Assumes nothing.
+-- The laws of the targets on a character: that a wide row is found only behind a header, and which row serves a symbol. Assumes nothing.
 use Prim.Native.Nat.{ℕ, _<_, _≤_}
 use native.Mathlib.Omega.{arith}
 use mathlib.Core.Path.{_≡_, sym, _∙_}

@@ -1,5 +1,6 @@
 // The record of a continuation, found whole: where its context count and its config count stand, and where it ends. The room may be of any
 // length and hold any numbers.
+// The answer `ContinuationRecord` is that of `continuation_records` above.
 ghost use mathlib.Core.Path.{_≡_};
 ghost use Prim.Native.Nat.{_+_, _^_, _<_, _≤_};
 ghost use lib.ListN.{length};

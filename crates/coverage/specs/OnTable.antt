@@ -1,4 +1,4 @@
--- Coverage of a table, as a reader of the Rust would count it. t is the table, s a state. Assumes nothing.
+-- Coverage of a table: "how many code points from 0 to 1,114,111 are not dead in a given state". t is the table, s a state. Assumes nothing.
 use Prim.Native.Nat.{ℕ}
 use mathlib.Core.List.{[], _∷_}
 use lib.Dec.{ltb}

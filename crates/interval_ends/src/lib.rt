@@ -1,6 +1,6 @@
 // The intervals of a list of transitions: both ends of each are written into a lent buffer. A list may be of any length and hold any bytes.
-// `transitions` judges it first, so that the records of an accepted list are walked here without a test. The bytes of a number and of a
-// length are read as they are there: a function that asks its caller for them is no crate's to lend.
+// `transitions` judges it first, so that the records of an accepted list are walked here without a test. It has its own functions for
+// the bytes of a number and of a length: they ask their caller that the bytes are there, and no public function asks anything.
 ghost use mathlib.Core.Path.{_≡_};
 ghost use mathlib.Core.List.{[]};
 ghost use mathlib.Core.Bool.{true};

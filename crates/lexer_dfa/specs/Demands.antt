@@ -119,7 +119,7 @@ CoverageAnswers room state x = (κs : Lfts 1) × (e : _) × coverage.Learnt κs 
 pub record CoveredBy (d : List ℕ) (state : ℕ) (says : Said) : Type 0 where
   -- the room is left for no words
   pub not-table : (p : ℕ) → Exactly (says ≡ no NOT-TABLE p) ((p ≡ 0) × ((w : List ℕ) → Leaves w d → ⊥))
-  -- it is left for some: they are those of a table, and how many points are not dead in its state is answered, or STATE where it has no such state
+  -- it is left for some: they are those of a table, and how many points are not dead in the state is answered, or STATE where the table has no such state
   pub counts : (w : List ℕ) → Leaves w d → (t : Table) × (w ≡ wordsOf t) × Fields t × Rules t × (says ≡ coverageOn t state)
 
 -- Demand 2: "Over ASCII-only bytes, a state's run, where it has one, is the longest front part on which it loops."

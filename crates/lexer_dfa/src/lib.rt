@@ -1,5 +1,5 @@
-// The face of Vohitsamba: every public call and every type that it answers with, and nothing else.
-// What the calls promise together, the demands, the ply sheet's examples and uniqueness, stands in proofs/.
+// The face of Vohitsamba: the calls that a user makes and the types that they answer with, and nothing else.
+// What the calls promise together, the demands, the ply sheet's examples and uniqueness, stands in specs/ and proofs/.
 pub use accept_records::accept_actions_span;
 pub use accept_records::accept_record;
 pub use accepts::AcceptRecord;
@@ -81,3 +81,4 @@ pub use transitions::read_transitions;
 pub use wide_pool::intern_wide;
 pub use wide_range::WideRange;
 pub use wide_range::wide_target;
+pub use words::Place;

@@ -64,7 +64,7 @@ pub record Spans (w : List ℕ) (n p q floor low high : ℕ) : Type 0 where
 unfoldable pub byLow : ℕ → ℕ → ℕ → Bool
 byLow tag low q = pick (leb 4 tag) (ltb q low) (leb low q)
 
--- the transition holds just those of the points with a key from floor to high ..
+-- of the points with a key from floor to high, the transition holds just those that `byLow` says ..
 pub record Tells (t : Transition) (tag floor low high : ℕ) : Type 0 where
   pub each : (point : ℕ) → floor ≤ point + origin → point + origin ≤ high → holds t point ≡ byLow tag low (point + origin)
 

@@ -20,11 +20,12 @@ openingSaid (Refused r) = no (r .number) (r .place)
 abbrev pub refused : ℕ → ℕ → Opening
 refused n p = Refused (record { number = n; place = p })
 
--- the tag, then the count of the modes; n is the word count
+-- the count of the modes; "SHORT in words returns the word count", which is n
 unfoldable pub counted : Word → ℕ → Opening
 counted (Value m) n = Modes m
 counted End n = refused SHORT n
 
+-- "2 TAG | the first word differs | 0"; behind the tag the count of the modes
 unfoldable pub opened : Word → Word → ℕ → Opening
 opened (Value t) m n = pick (eqb t tag) (counted m n) (refused TAG 0)
 opened End m n = refused SHORT n

@@ -1,4 +1,4 @@
-// The first program to run: it reads a ply list from standard input and says which number each line starts with.
+// A program to try first: it reads a ply list from standard input and says which number each line starts with.
 // Ply 10 must not arrive as ply 1 and a stray 0, so the digits are skipped by a run: the state of the lexer that reads a number
 // loops on them, its row is classified, and each line is scanned by the run that this gives.
 //

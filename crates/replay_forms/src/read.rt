@@ -7,7 +7,7 @@ fn byte(s: &[u8], at: usize) -> u8 {
 }
 
 // What stands after the first n bytes.
-pub fn after(s: &[u8], n: usize) -> &[u8] {
+pub(crate) fn after(s: &[u8], n: usize) -> &[u8] {
     if n <= s.len() { &s[n..] } else { &s[0..0] }
 }
 
@@ -23,10 +23,10 @@ fn wider(x: u16) -> u32
     x as u32
 }
 
-pub fn half(s: &[u8]) -> u16 {
+pub(crate) fn half(s: &[u8]) -> u16 {
     wide(byte(s, 0)) + 256 * wide(byte(s, 1))
 }
 
-pub fn word(s: &[u8]) -> u32 {
+pub(crate) fn word(s: &[u8]) -> u32 {
     wider(half(s)) + 65536 * wider(half(after(s, 2)))
 }

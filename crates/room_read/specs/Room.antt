@@ -30,7 +30,7 @@ recordIn w s e size i = spanned w s e (placed s e (getD w s 0) size i) Outside
 abbrev pub within : ℕ → ℕ → ℕ → Found
 within s e p = pick (ltb s p) (pick (ltb p e) (At p) Outside) Outside
 
--- the place that is number i of the list at `list`
+-- the place that is number i of the list at `list`, if it lies in the section
 abbrev pub numbered : List ℕ → ℕ → ℕ → ℕ → ℕ → Found
 numbered w s e list i = pick (ltb (list + i) (length w)) (within s e (getD w (list + i) 0)) Outside
 

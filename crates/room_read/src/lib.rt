@@ -1,4 +1,4 @@
-// Finding a record or a row in a room. The room may be of any length and hold any numbers: each call says whether what it follows is
+// Finding a record in a room; the answer `Hit` is that of `row_search` above. The room may be of any length and hold any numbers: each call says whether what it follows is
 // there.
 ghost use mathlib.Core.Path.{_≡_};
 ghost use Rattle.room_read.specs.Room.{placed, recordIn, within, numbered, listedIn, stateAt};
@@ -62,7 +62,7 @@ fn within(start: u32, end: usize, at: u32) -> Found
     Found::Outside
 }
 
-// The place that is number `i` of the list at `list`.
+// The place that is number `i` of the list at `list`, if it lies in the section.
 fn place_in(room: &[u32], start: u32, end: usize, list: usize, i: u32) -> Found
     ensures { λ r. ⌜ r ≡ numbered (now (room .entry)) start end list i ⌝ }
 {

@@ -37,7 +37,7 @@ abbrev pub lent : List ℕ → List ℕ → List ℕ → List ℕ → List ℕ �
 lent segments masks distinct ascii wide escape =
     record { segments = length segments; masks = length masks; distinct = length distinct; ascii = length ascii; wide = length wide; escape = length escape }
 
--- "targets or continuations differ in number from distinct masks"
+-- "targets or continuations differ in number from distinct masks" is where this fails
 abbrev pub asMany : List Transition → List ℕ → List ℕ → Bool
 asMany ts targets conts = eqb (length targets) (length (distinctOf ts)) && eqb (length conts) (length (distinctOf ts))
 

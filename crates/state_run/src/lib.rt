@@ -1,4 +1,5 @@
 // The run of a state. The room may be of any length and hold any numbers.
+// The answer `StateScan` is that of `state_scan_length` above.
 ghost use mathlib.Core.Path.{_≡_};
 ghost use Prim.Native.Nat.{_+_, _≤_};
 ghost use lib.ListN.{length};

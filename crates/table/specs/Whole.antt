@@ -1,4 +1,4 @@
--- The words of a table as a whole.
+-- What is asked of any list of words: each is a word.
 use Prim.Native.Nat.{ℕ, _<_}
 use mathlib.Core.List.{List}
 use lib.ListN.{length, getD}

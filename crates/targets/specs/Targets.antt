@@ -55,6 +55,7 @@ searchTarget w p e x = given (searched w p e x) target (ok (65535 ∷ [])) (no N
 abbrev pub wideTarget : List ℕ → ℕ → ℕ → Said
 wideTarget w row x = follow (wideRowAt w row) (λ p. searchTarget w p (getD w 6 0) x) (no NOT-TABLE 0) (no NOT-TABLE 0)
 
+-- the target on a symbol that no ascii row has
 abbrev pub wideOf : List ℕ → ℕ → ℕ → Said
 wideOf w s x = ofState w s (λ p. wideTarget w (getD w (p + 1) 0) x)
 

@@ -1,1 +1,1 @@
-// What it is for a contract to determine an answer. Only definitions stand here, and no function.
+// What it is for a contract to determine an answer. Only definitions and a law stand here, and no function.

@@ -1,4 +1,4 @@
--- "Equal to the search over numbers", by the contracts of the two calls alone: what `wide_target` answers for a row is the target of what `row_search::search_row` answers on
+-- "equal to the search over numbers", by the contracts of the two calls alone: what `wide_target` answers for a row is the target of what `row_search::search_row` answers on
 -- any room in which the row's numbers stand. Assumes nothing.
 use Prim.Native.Nat.{ℕ}
 use mathlib.Core.Path.{_≡_, sym, ap, _∙_}

@@ -16,6 +16,7 @@ numbers (r ∷ rs) = r .low ∷ r .high ∷ r .target ∷ numbers rs
 abbrev pub targetOf : Hit → ℕ
 targetOf h = given h (λ t. t) 65535 65535
 
+-- "read to the first range whose high is at least the symbol; its target if low is at most the symbol, else dead": over records, by the search over their numbers
 unfoldable pub targetIn : List WideRange → ℕ → ℕ
 targetIn rs x = targetOf (found (numbers rs) x (length rs) 0)
 

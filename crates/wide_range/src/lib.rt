@@ -4,7 +4,7 @@ ghost use mathlib.Core.Path.{_≡_};
 ghost use Rattle.wide_range.specs.Ranges.{targetIn};
 use refusal::DEAD_STATE;
 
-// A range of symbols past 127, and where it leads.
+// A range of symbols, and where it leads.
 pub struct WideRange {
     pub low: u32,
     pub high: u32,
