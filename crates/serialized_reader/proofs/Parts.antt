@@ -17,6 +17,7 @@ use denote.Laws.{Is}
 use denote.Plain.{uint-makes}
 use denote.Builtin.{u32, usize}
 use denote.Ref.{NamedLft}
+use denote.Signature.{Slot, plain, namedLft}
 use denote.Slice.{sliceVal, ShrSlice}
 use denote.Steps.{owned, nothing}
 use denote.Struct.Declared.{Declared}
@@ -26,6 +27,10 @@ use denote.Struct.Values.{Values}
 use Rattle.serialized_reader.specs.declared.SerializedReader.{SerializedReader}
 use Rattle.serialized_reader.proofs.SerializedReader as T
 use Rattle.serialized_reader.proofs.SerializedReader.Laws as T′
+
+-- `SerializedReader<'a>`, as the referent's place in the signature
+abbrev pub behind : Slot 2
+behind = plain (λ κs. T.the-row (namedLft 2 1 tt κs))
 
 -- 'a, as a method's signature has it, and the struct's type at it
 abbrev pub α : Lft → NamedLft

@@ -27,7 +27,6 @@ use denote.Memory.{mem, cellAt}
 use denote.Plain.{uint-lawful}
 use denote.Builtin.{u32, usize}
 use denote.Ref.{RefT, MutRef, ptr-vals, mut-tells, now}
-use denote.Signature.{Slot, plain, namedLft}
 use denote.Slice.{ShrSlice}
 use denote.Steps.{opens, closes, peeks, heard, nothing, only}
 use denote.Enum.Laws as EL
@@ -43,7 +42,7 @@ use denote.Triple.Clauses.{ensured, lasts}
 use Rattle.serialized_reader.specs.Reader.{wordAt, pastWord}
 use Rattle.serialized_reader.specs.declared.SerializedReader.{SerializedReader}
 use Rattle.serialized_reader.specs.declared.Word.{Word}
-use Rattle.serialized_reader.proofs.Parts.{B, D, L, Own, moved, passed, again, apart}
+use Rattle.serialized_reader.proofs.Parts.{behind, B, D, L, Own, moved, passed, again, apart}
 use Rattle.serialized_reader.proofs.SerializedReader as T
 use Rattle.serialized_reader.proofs.SerializedReader.Laws as T′
 use Rattle.serialized_reader.proofs.Word as S
@@ -60,10 +59,6 @@ use Rattle.serialized_reader.proofs.SerializedReader.next.Key.{name as 
 use Rattle.serialized_reader.proofs.SerializedReader.next as next
 use Rattle.serialized_reader.proofs.SerializedReader.next.Statement as stated
 use Rattle.serialized_reader.proofs.SerializedReader.next.Code as code
-
--- `SerializedReader<'a>`, as the referent's place in the signature
-abbrev behind : Slot 2
-behind = plain (λ κs. T.the-row (namedLft 2 1 tt κs))
 
 abbrev stayed : Stays (next.ended .signature .params) (next.ended .kept)
 stayed = (stay-ref (0 ∷ []) tt behind, tt)

@@ -27,7 +27,6 @@ use denote.Memory.{mem, cellAt}
 use denote.Plain.{uint-lawful, uint-makes}
 use denote.Builtin.{u32, usize}
 use denote.Ref.{RefT, MutRef, ptr-vals, mut-tells, now}
-use denote.Signature.{Slot, plain, namedLft}
 use denote.Slice.{ShrSlice}
 use denote.Steps.{opens, closes, owned, peeks, heard, nothing, only}
 use denote.Enum.Laws as EL
@@ -50,7 +49,7 @@ use Rattle.simple_words.proofs.read_state.Symbol.{name as #state-at}
 use Rattle.simple_words.proofs.read_state.Met as state-at-thm
 use Rattle.serialized_reader.specs.Reader.{pastRecord}
 use Rattle.serialized_reader.specs.declared.SerializedReader.{SerializedReader}
-use Rattle.serialized_reader.proofs.Parts.{B, D, L, Own, moved, passed, again, apart}
+use Rattle.serialized_reader.proofs.Parts.{behind, B, D, L, Own, moved, passed, again, apart}
 use Rattle.serialized_reader.proofs.SerializedReader as T
 use Rattle.serialized_reader.proofs.SerializedReader.Laws as T′
 use Rattle.serialized_reader.proofs.past_record as past-record
@@ -61,10 +60,6 @@ use Rattle.serialized_reader.proofs.SerializedReader.read_state.Key.{na
 use Rattle.serialized_reader.proofs.SerializedReader.read_state as read-state
 use Rattle.serialized_reader.proofs.SerializedReader.read_state.Statement as stated
 use Rattle.serialized_reader.proofs.SerializedReader.read_state.Code as code
-
--- `SerializedReader<'a>`, as the referent's place in the signature
-abbrev behind : Slot 2
-behind = plain (λ κs. T.the-row (namedLft 2 1 tt κs))
 
 abbrev stayed : Stays (read-state.ended .signature .params) (read-state.ended .kept)
 stayed = (stay-ref (0 ∷ []) tt behind, tt)
