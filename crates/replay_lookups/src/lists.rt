@@ -44,12 +44,11 @@ fn write(room: &[u32], kind: u8, out: &mut [u32]) -> usize {
 }
 
 // No number of the output is 0 before, so that one which is left alone changes the check.
-pub(crate) fn replay_list(room: &[u32], record: &[u8]) -> Replayed {
+pub(crate) fn replay_list(room: &[u32], kind: u8, record: &[u8]) -> Replayed {
     let mut out = [1u32; MAX_WORDS];
-    let length = write(room, read::byte(record, 0), &mut out);
+    let length = write(room, kind, &mut out);
     Replayed {
-        bytes: 7,
-        same: (length == read::size(read::after(record, 1)))
-            & (check(&out) == read::word(read::after(record, 3))),
+        more: 6,
+        same: (length == read::size(record, 1)) & (check(&out) == read::word(record, 3)),
     }
 }
