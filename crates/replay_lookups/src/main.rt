@@ -54,7 +54,7 @@ fn replay_record(room: &[u32], rest: &[u8]) -> Replayed {
 }
 
 // Counts every record, up to the first that cannot be read or is not whole, and answers the byte up to which it came.
-fn replay(room: &[u32], sample: &[u8], from: usize, counts: &mut [u64]) -> usize {
+fn replay(room: &[u32], sample: &[u8], from: usize, counts: &mut [usize]) -> usize {
     let mut at = from;
     while at < sample.len() {
         let rest = &sample[at..];
@@ -70,7 +70,7 @@ fn replay(room: &[u32], sample: &[u8], from: usize, counts: &mut [u64]) -> usize
 }
 
 // Replays what stands behind the table, where it is one.
-fn replay_table(sample: &[u8], counts: &mut [u64]) -> usize {
+fn replay_table(sample: &[u8], counts: &mut [usize]) -> usize {
     let mut room = [0u32; ROOM_NUMBERS];
     let bytes = 4 * read::size(sample, 0);
     let table = program_io::read_table(read::part(sample, 2, bytes), &mut room);
@@ -81,9 +81,9 @@ fn replay_table(sample: &[u8], counts: &mut [u64]) -> usize {
 }
 
 fn report(sample: &[u8]) {
-    let mut counts = [0u64; PLACES];
+    let mut counts = [0usize; PLACES];
     let at = replay_table(sample, &mut counts);
-    tally::print(at as u64, b" of ", sample.len() as u64, b" bytes\n");
+    tally::print(at, b" of ", sample.len(), b" bytes\n");
     tally::print_all(&counts, &ENDS);
 }
 

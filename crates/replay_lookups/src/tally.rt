@@ -12,32 +12,29 @@ const END: usize = 29;
 
 // One answer more, of a kind. No count comes near its end, since every answer takes bytes of the sample; so nothing is asked to show
 // that it fits.
-pub(crate) fn count(counts: &mut [u64], kind: u8, same: bool) {
+pub(crate) fn count(counts: &mut [usize], kind: u8, same: bool) {
     let mut place = kind as usize;
     if !same {
         place += KINDS;
     }
     if place < counts.len() {
-        counts[place] = std::num::wrapping_add_u64(counts[place], 1);
+        counts[place] = std::num::wrapping_add_usize(counts[place], 1);
     }
 }
 
 // Two numbers, and what stands behind each.
-pub(crate) fn print(first: u64, behind: &[u8], second: u64, end: &[u8]) {
-    io::print_decimal(STDOUT_FILENO, first);
+pub(crate) fn print(first: usize, behind: &[u8], second: usize, end: &[u8]) {
+    io::print_decimal(STDOUT_FILENO, first as u64);
     io::write_all(STDOUT_FILENO, behind);
-    io::print_decimal(STDOUT_FILENO, second);
+    io::print_decimal(STDOUT_FILENO, second as u64);
     io::write_all(STDOUT_FILENO, end);
 }
 
 // A line for each kind.
-pub(crate) fn print_all(counts: &[u64; PLACES], ends: &[u8]) {
+pub(crate) fn print_all(counts: &[usize; PLACES], ends: &[u8]) {
     for i in 0..KINDS {
-        print(
-            counts[1 + i],
-            b" equal, ",
-            counts[1 + KINDS + i],
-            read::part(ends, END * i, END),
-        );
+        let kind = 1 + i;
+        let end = read::part(ends, END * i, END);
+        print(counts[kind], b" equal, ", counts[kind + KINDS], end);
     }
 }

@@ -108,12 +108,13 @@ fn same_rows(list: &[u8], targets: &[u16], continuations: &[u32], recorded: &[u8
     )
 }
 
-// So many targets and continuations, from the front of each part. No record tells of more than 64.
-fn same_given(list: &[u8], count: usize, first: &[u8], second: &[u8], recorded: &[u8]) -> bool {
+// How many masks are given, then a target and then a continuation for each. No record tells of more than 64.
+fn same_given(list: &[u8], given: &[u8], recorded: &[u8]) -> bool {
+    let count = read::size(given, 0);
     let mut targets = [0u16; 64];
     let mut continuations = [0u32; 64];
-    read::halves(first, 0, &mut targets);
-    read::words(second, 0, &mut continuations);
+    read::halves(given, 2, &mut targets);
+    read::words(given, 2 + 2 * count, &mut continuations);
     same_rows(
         list,
         read::first_halves(&targets, count),
@@ -122,21 +123,24 @@ fn same_given(list: &[u8], count: usize, first: &[u8], second: &[u8], recorded: 
     )
 }
 
-// The list's length, the list, how many masks are given, what they are given, and the answer.
+fn same_answer(kind: u8, list: &[u8], given: &[u8], recorded: &[u8]) -> bool {
+    match kind {
+        1 => same_intervals(list, recorded),
+        2 => same_segments(list, recorded),
+        3 => same_matrix(list, recorded),
+        4 => same_distinct(list, recorded),
+        _ => same_given(list, given, recorded),
+    }
+}
+
+// The list's length, the list, what the masks are given, and the answer.
 pub(crate) fn replay_list(kind: u8, record: &[u8]) -> Replayed {
     let length = read::size(record, 1);
     let list = read::part(record, 3, length);
-    let count = read::size(record, 3 + length);
-    let given = read::after(record, 5 + length);
-    let recorded = read::after(given, 6 * count);
+    let given = read::after(record, 3 + length);
+    let bytes = 2 + 6 * read::size(given, 0);
     Replayed {
-        more: 16 + length + 6 * count,
-        same: match kind {
-            1 => same_intervals(list, recorded),
-            2 => same_segments(list, recorded),
-            3 => same_matrix(list, recorded),
-            4 => same_distinct(list, recorded),
-            _ => same_given(list, count, given, read::after(given, 2 * count), recorded),
-        },
+        more: 14 + length + bytes,
+        same: same_answer(kind, list, given, read::after(given, bytes)),
     }
 }

@@ -47,7 +47,7 @@ fn replay_record(rest: &[u8]) -> Replayed {
 }
 
 // Counts every record, up to the first that cannot be read or is not whole, and answers the byte up to which it came.
-fn replay(sample: &[u8], counts: &mut [u64]) -> usize {
+fn replay(sample: &[u8], counts: &mut [usize]) -> usize {
     let mut at = 0;
     while at < sample.len() {
         let rest = &sample[at..];
@@ -63,9 +63,9 @@ fn replay(sample: &[u8], counts: &mut [u64]) -> usize {
 }
 
 fn report(sample: &[u8]) {
-    let mut counts = [0u64; PLACES];
+    let mut counts = [0usize; PLACES];
     let at = replay(sample, &mut counts);
-    tally::print(at as u64, b" of ", sample.len() as u64, b" bytes\n");
+    tally::print(at, b" of ", sample.len(), b" bytes\n");
     tally::print_all(&counts, &ENDS);
 }
 
