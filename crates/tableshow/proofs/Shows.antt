@@ -192,7 +192,7 @@ module _ {xs : List ℕ} {n : ℕ} {old : List ℕ} {m : ℕ} {out : List ℕ} w
 
 -- A text: the bytes that are left, shown from here, give what all of them give
 
-text-open : (t : List ℕ) (i : ℕ) → i < length t → drop i t ≡ (getD t i 0 ∷ []) ++ drop (i + 1) t
+pub text-open : (t : List ℕ) (i : ℕ) → i < length t → drop i t ≡ (getD t i 0 ∷ []) ++ drop (i + 1) t
 text-open t i h = rw (drop-cons t i 0 h, add-one)
 
 module _ (t : List ℕ) (i : ℕ) {xs : List ℕ} {n : ℕ} {old : List ℕ} {m : ℕ} {out : List ℕ} where
