@@ -1,9 +1,9 @@
 -- The laws of forms: how one is written byte by byte, and which text each is. A form goes by its place (src/forms.rt). Assumes nothing.
 use Prim.Native.Nat.{ℕ, zero, suc, _+_, _-_, _/_, _%_, _<_, _≤_}
-use native.Mathlib.Nat.{not-suc-le-zero, mod-eq-of-lt, lt-of-lt-of-le}
+use native.Mathlib.Nat.{not-suc-le-zero}
 use native.Mathlib.Omega.{arith}
-use mathlib.Core.Bool.{Bool, true, false}
-use mathlib.Core.Path.{_≡_, refl, sym, ap, _∙_}
+use mathlib.Core.Bool.{false}
+use mathlib.Core.Path.{_≡_, refl, ap}
 use mathlib.Core.List.{List, [], _∷_, _++_, append-nil}
 use mir.Syntax.{w64}
 use mir.Val.{Fits}
@@ -14,12 +14,12 @@ use lib.ListN.{length, getD, drop}
 use Rattle.refusal.specs.Fixed.{NONE}
 use Rattle.refusal.specs.Lists.{pick}
 use Rattle.tableshow.specs.Shown.{Shown, joined, ifLess, ifSame}
-use Rattle.tableshow.specs.Names.{number, hexDigit, symbol, quoted, front, four, point, range, target}
+use Rattle.tableshow.specs.Names.{number, hexDigit, symbol, quoted, front, four, point, range}
 use Rattle.tableshow.specs.Texts as t
 use Rattle.tableshow.specs.Forms.{filled, digitIn, glyphOf, numberIn, exitIn, lowIn, highIn, piece, forms, drawn, formed}
 use Rattle.tableshow.specs.Rows.{gap}
 use Rattle.tableshow.specs.Page.{recordLine, untilText, rangesLine, runText, ruleText, reasonText, startLine, tableText, endTarget, endContinuation}
-use Rattle.tableshow.proofs.Shows.{Coming, coming-start, coming-turn, coming-done, text-open, joined-2, joined-3, if-same, if-not-same, shown-none}
+use Rattle.tableshow.proofs.Shows.{Coming, coming-start, coming-turn, coming-done, text-open, joined-3, if-same, if-not-same}
 
 -- Byte by byte
 

@@ -1,16 +1,15 @@
 -- The laws of numbers on a page, and of the rows of a state. Assumes nothing.
-use Prim.Native.Nat.{ℕ, zero, suc, _+_, _*_, _-_, _/_, _%_, _<_, _≤_}
+use Prim.Native.Nat.{ℕ, zero, suc, _+_, _*_, _-_, _%_, _<_, _≤_}
 use native.Mathlib.Nat.{not-suc-le-zero, le-of-suc-le-suc}
 use native.Mathlib.Omega.{arith}
-use mathlib.Core.Path.{_≡_, refl, sym, ap, _∙_}
-use mathlib.Core.Bool.{Bool, true, false}
-use mathlib.Core.List.{List, [], _∷_, _++_}
+use mathlib.Core.Path.{_≡_, refl, _∙_}
+use mathlib.Core.Bool.{Bool}
+use mathlib.Core.List.{List, [], _∷_}
 use mir.Syntax.{w64}
 use mir.Val.{Fits}
 use borrow.Author.Needs.{needs}
 use borrow.Author.Tests.{lt-ltb, le-ltb, eq-eqb, ne-eqb}
-use lib.ListN.{length, getD, take, drop}
-use Rattle.io.specs.Counts.{Counts}
+use lib.ListN.{length, getD, take}
 use Rattle.io.specs.Digits.{digits, Fewest}
 use Rattle.refusal.specs.Said.{Said}
 use Rattle.program_io.proofs.Decimal.{found}
@@ -25,7 +24,7 @@ use Rattle.tableshow.specs.Shown.{Shown, joined}
 use Rattle.tableshow.specs.Names.{number, hexDigit, range, target}
 use Rattle.tableshow.specs.Forms.{formed}
 use Rattle.tableshow.specs.Rows.{gap, after, ending, item, orElse, targetOn, edge, lowAfter, itemsAfter, edgeAt, lowAt, itemsAt, asciiFrom, asciiText, rangesFrom, rowText, listed, wideAt, wideRow, firstWith, wideWith, wideText, escapesAt, escapesText, runAt}
-use Rattle.tableshow.specs.Texts.{wide-label, escapes-label}
+use Rattle.tableshow.specs.Texts.{escapes-label}
 use Rattle.tableshow.specs.Page.{part, recordLine, saidLine, acceptText, headText, runText, runLine, endTarget, endContinuation, startLine, modeText, tableText, reasonText, refusalText}
 use Rattle.tableshow.proofs.Filling.{is-no-accept, is-state, is-table, is-refused, is-ascii, is-wide, is-wide-as, is-escapes}
 use Rattle.tableshow.proofs.Shows.{shows, joined-2, if-same, if-not-same, if-same-as, if-not-same-as, shown-none, Coming, coming-start, coming-turn, coming-last}

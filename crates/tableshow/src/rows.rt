@@ -1,7 +1,7 @@
 // The rows of a state on a page. The room may be of any length and hold any numbers: a number that is not there reads as 0.
 ghost use mathlib.Core.Path.{_≡_};
 ghost use mathlib.Core.List.{[], _∷_};
-ghost use Prim.Native.Nat.{ℕ, _+_, _*_, _^_, _<_, _≤_};
+ghost use Prim.Native.Nat.{ℕ, _+_, _*_, _^_, _<_};
 ghost use lib.ListN.{getD};
 ghost use Rattle.targets.specs.Targets.{said};
 ghost use Rattle.tableshow.specs.Shown.{Shown, joined};
