@@ -4,9 +4,9 @@ use mathlib.Core.Path.{_≡_, _∙_, ap}
 use mathlib.Core.List.{List}
 use borrow.Author.Needs.{needs}
 use Rattle.refusal.specs.declared.Refusal.{Refusal}
-use Rattle.mode_counts.specs.declared.Listed.{Listed}
-use Rattle.mode_counts.specs.declared.Listed.the-variants.{Numbers, Refused}
-use Rattle.mode_counts.specs.Written.{Wrote, Writes, said, wroteSaid, leftIn}
+use Rattle.mode_flags.specs.declared.Listed.{Listed}
+use Rattle.mode_flags.specs.declared.Listed.the-variants.{Numbers, Refused}
+use Rattle.mode_flags.specs.Written.{Wrote, Writes, said, wroteSaid, leftIn}
 use Rattle.mode_lists_c.specs.declared.CListed.{CListed}
 use Rattle.mode_lists_c.specs.Answers.{listedInC}
 

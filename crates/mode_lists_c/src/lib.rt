@@ -2,10 +2,11 @@
 // A number of 0 says answered; else it is document 01's refusal, with its place, and the length is 0.
 ghost use mathlib.Core.Path.{_≡_};
 ghost use lib.ListN.{length};
-ghost use Rattle.mode_counts.specs.Counts as counting;
-ghost use Rattle.mode_counts.specs.Written as writing;
+ghost use Rattle.mode_flags.specs.Written as writing;
+ghost use Rattle.mode_flags.specs.Flags.{modeFlags};
+ghost use Rattle.mode_counts.specs.Counts.{modeStateCounts};
 ghost use Rattle.mode_lists_c.specs.Answers.{listedInC};
-use mode_counts::Listed;
+use mode_flags::Listed;
 
 // How many numbers were written.
 #[repr(C)]
@@ -35,15 +36,15 @@ fn listed_in_c(listed: Listed) -> CListed
 // For each mode 1 where it is compiled, else 0.
 #[no_mangle]
 pub extern "C" fn lexer_dfa_compiled_mode_flags(room: &[u32], out: &mut [u32]) -> CListed
-    ensures { λ r. ⌜ (r ≡ listedInC (writing.wroteSaid (counting.modeFlags (now (room .entry)) (length (now (out .entry)))))) × (now (out .exit) ≡ writing.leftIn (length (now (out .entry))) (counting.modeFlags (now (room .entry)) (length (now (out .entry))))) ⌝ }
+    ensures { λ r. ⌜ (r ≡ listedInC (writing.wroteSaid (modeFlags (now (room .entry)) (length (now (out .entry)))))) × (now (out .exit) ≡ writing.leftIn (length (now (out .entry))) (modeFlags (now (room .entry)) (length (now (out .entry))))) ⌝ }
 {
-    listed_in_c(mode_counts::compiled_mode_flags(room, out))
+    listed_in_c(mode_flags::compiled_mode_flags(room, out))
 }
 
 // For each compiled mode how many states it has.
 #[no_mangle]
 pub extern "C" fn lexer_dfa_mode_state_counts(room: &[u32], out: &mut [u32]) -> CListed
-    ensures { λ r. ⌜ (r ≡ listedInC (writing.wroteSaid (counting.modeStateCounts (now (room .entry)) (length (now (out .entry)))))) × (now (out .exit) ≡ writing.leftIn (length (now (out .entry))) (counting.modeStateCounts (now (room .entry)) (length (now (out .entry))))) ⌝ }
+    ensures { λ r. ⌜ (r ≡ listedInC (writing.wroteSaid (modeStateCounts (now (room .entry)) (length (now (out .entry)))))) × (now (out .exit) ≡ writing.leftIn (length (now (out .entry))) (modeStateCounts (now (room .entry)) (length (now (out .entry))))) ⌝ }
 {
     listed_in_c(mode_counts::mode_state_counts(room, out))
 }

@@ -2,7 +2,7 @@
 use crate::Replayed;
 use crate::read;
 use encode::Encoded;
-use mode_counts::Listed;
+use mode_flags::Listed;
 use refusal::MAX_WORDS;
 
 // A refusal is a length that no output has.
@@ -37,7 +37,7 @@ fn encoded(answer: Encoded) -> usize {
 
 fn write(room: &[u32], kind: u8, out: &mut [u32]) -> usize {
     match kind {
-        11 => listed(mode_counts::compiled_mode_flags(room, out)),
+        11 => listed(mode_flags::compiled_mode_flags(room, out)),
         12 => listed(mode_counts::mode_state_counts(room, out)),
         _ => encoded(encode::encode(room, out)),
     }

@@ -5,8 +5,8 @@ use mathlib.Core.List.{List, [], _∷_}
 use lib.ListN.{length}
 use Rattle.refusal.specs.Said.{Said, ok, no}
 use Rattle.written.specs.Over.{zeros, padded}
-use Rattle.mode_counts.specs.declared.Listed.{Listed}
-use Rattle.mode_counts.specs.declared.Listed.the-variants.{Numbers, Refused}
+use Rattle.mode_flags.specs.declared.Listed.{Listed}
+use Rattle.mode_flags.specs.declared.Listed.the-variants.{Numbers, Refused}
 
 -- a list that is written, or a refusal by number and place
 pub data Wrote : Type 0 where

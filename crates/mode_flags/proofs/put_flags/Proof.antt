@@ -4,10 +4,10 @@ use mathlib.Core.List.{map}
 use lib.ListN.{length}
 use Rattle.written.proofs.Going.{Going}
 use Rattle.modes.specs.Modes.{numbers}
-use Rattle.mode_counts.specs.Counts.{flag}
-use Rattle.mode_counts.proofs.Flags.{flagging}
-use Rattle.mode_counts.proofs.put_flags.Statement.{statement}
-use Rattle.mode_counts.proofs.put_flags.Tie as tie
+use Rattle.mode_flags.specs.Flags.{flag}
+use Rattle.mode_flags.proofs.Flags.{flagging}
+use Rattle.mode_flags.proofs.put_flags.Statement.{statement}
+use Rattle.mode_flags.proofs.put_flags.Tie as tie
 
 abbrev Inv-loop : tie.InvT-loop
 Inv-loop room at count out₀ left₀ here₀ m₀ out left here m = (here + left ≤ length room) × Going (map flag (numbers room count at)) 0 out₀ (map flag (numbers room left here)) m out

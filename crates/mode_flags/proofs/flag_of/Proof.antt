@@ -1,7 +1,7 @@
 -- Each answer is the case that the tests on the way say.
-use Rattle.mode_counts.proofs.Flags.{cases}
-use Rattle.mode_counts.proofs.flag_of.Statement.{statement}
-use Rattle.mode_counts.proofs.flag_of.Tie as tie
+use Rattle.mode_flags.proofs.Flags.{cases}
+use Rattle.mode_flags.proofs.flag_of.Statement.{statement}
+use Rattle.mode_flags.proofs.flag_of.Tie as tie
 
 pub flag-of-spec : {M : Type 1} → statement M
 flag-of-spec =
