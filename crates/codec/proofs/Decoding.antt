@@ -1,43 +1,24 @@
 -- The laws of decoding, by the tests that the code makes. Assumes nothing.
-use Prim.Native.Nat.{ℕ, _<_, _≤_}
-use native.Mathlib.Omega.{arith}
+use Prim.Native.Nat.{ℕ, _<_}
 use mathlib.Core.Path.{_≡_, refl, sym, ap, _∙_}
-use mathlib.Core.Bool.{Bool, true, false}
 use mathlib.Core.List.{List}
 use lib.ListN.{length, getD}
-use lib.Dec.{ltb}
 use borrow.Author.Needs.{needs}
-use borrow.Author.Tests.{eq-eqb, ne-eqb, ltb-false}
+use borrow.Author.Tests.{eq-eqb, ne-eqb}
 use Rattle.refusal.specs.declared.Refusal.{Refusal}
-use Rattle.refusal.specs.Said.{Said, ok, no, LIMIT, ROOM, INDEX}
-use Rattle.refusal.specs.Lists.{pick}
+use Rattle.refusal.specs.Said.{Said, ok, no, INDEX}
 use Rattle.words.proofs.Bounds.{section-in}
 use Rattle.layout.specs.declared.Sections.{Sections}
 use Rattle.layout.specs.declared.Sections.the-variants.{Found, Unfound}
-use Rattle.layout.specs.Layout.{unfound, layoutOf}
 use Rattle.layout.proofs.Found.{found}
 use Rattle.rules.specs.Rules.{broken}
 use Rattle.written.specs.Over.{zeros}
-use Rattle.room.specs.Room.{laidOut, roomFor}
+use Rattle.limits.specs.Limits.{laidOut}
+use Rattle.limits.proofs.Laws.{kept}
+use Rattle.room.specs.Room.{roomFor}
 use Rattle.codec.specs.declared.Decoded.{Decoded}
 use Rattle.codec.specs.declared.Decoded.the-variants.{Table, Refused}
 use Rattle.codec.specs.Decode.{said, judged, decodedFrom, decodeOf, keptFrom, roomOf}
-
--- Sections that were found, within the limits
-
-pub record Kept (w : List ℕ) (n m s r a v x e c : ℕ) : Type 0 where
-  pub room : 16384 ≤ n
-  pub limit : length w ≤ 8192
-  pub laid : layoutOf w ≡ Found m s r a v x e c
-
-pub kept : (w : List ℕ) (n : ℕ) {m s r a v x e c : ℕ} → laidOut w n ≡ Found m s r a v x e c → Kept w n m s r a v x e c
-unfolding laidOut
-kept w n {m} {s} {r} {a} {v} {x} {e} {c} h = go (ltb n 16384) (ltb 8192 (length w)) refl refl h
-  where
-    go : (p q : Bool) → ltb n 16384 ≡ p → ltb 8192 (length w) ≡ q → pick p (unfound ROOM 0) (pick q (unfound LIMIT 8192) (layoutOf w)) ≡ Found m s r a v x e c → Kept w n m s r a v x e c
-    go true q i j k = let z : _≡_ {A = ℕ} 0 1 = cc in absurd (omega arith)
-    go false true i j k = let z : _≡_ {A = ℕ} 0 1 = cc in absurd (omega arith)
-    go false false i j k = record { room = ltb-false n 16384 i; limit = ltb-false 8192 (length w) j; laid = k }
 
 module _ (w : List ℕ) (n : ℕ) {got : Sections} where
   module _ {m s r a v x e c : ℕ} where

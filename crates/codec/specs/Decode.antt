@@ -10,7 +10,8 @@ use Rattle.layout.specs.declared.Sections.{Sections}
 use Rattle.layout.specs.declared.Sections.the-variants.{Found, Unfound}
 use Rattle.rules.specs.Rules.{broken}
 use Rattle.written.specs.Over.{zeros}
-use Rattle.room.specs.Room.{laidOut, roomFor}
+use Rattle.limits.specs.Limits.{laidOut}
+use Rattle.room.specs.Room.{roomFor}
 use Rattle.codec.specs.declared.Decoded.{Decoded}
 use Rattle.codec.specs.declared.Decoded.the-variants.{Table, Refused}
 

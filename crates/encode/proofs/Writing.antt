@@ -19,10 +19,10 @@ use Rattle.layout.specs.Layout.{unfound, layoutOf}
 use Rattle.layout.proofs.Found.{found}
 use Rattle.written.specs.Over.{over, lay, zeros, padded}
 use Rattle.written.proofs.Overs.{lay-none, lay-put, lay-lay, lay-zeros}
-use Rattle.room.specs.Room.{laidOut}
+use Rattle.limits.specs.Limits.{laidOut}
 use Rattle.room.proofs.Sizes.{ordered}
 use Rattle.codec.specs.Decode.{decodedFrom, roomOf}
-use Rattle.codec.proofs.Decoding.{kept}
+use Rattle.limits.proofs.Laws.{kept}
 use Rattle.judge.specs.Judge.{wordsPart, accepted, isTable, tableIn}
 use Rattle.encode.specs.declared.Encoded.{Encoded}
 use Rattle.encode.specs.declared.Encoded.the-variants.{Words, Refused}

@@ -4,7 +4,7 @@ use Prim.Native.Nat.{ℕ, zero, suc, _+_, _*_, _-_, _^_, _<_, _≤_}
 use native.Mathlib.Nat.{not-suc-le-zero}
 use native.Mathlib.Numerals.{sub-one, add-one}
 use native.Mathlib.Omega.{arith}
-use mathlib.Core.Path.{_≡_, refl, sym, _∙_}
+use mathlib.Core.Path.{_≡_, refl, sym, ap, _∙_}
 use mathlib.Core.List.{List, [], _∷_, _++_}
 use mathlib.Core.Bool.{Bool, true, false, _&&_, and-false, and-true, and-assoc}
 use mir.Syntax.{w64}
@@ -22,14 +22,14 @@ use Rattle.words.specs.declared.Place.the-variants.{Next, Refused}
 use Rattle.words.specs.Parse as parse
 use Rattle.words.specs.Parse.{andThen}
 use Rattle.words.specs.Records.{runAt, wideAt, acceptAt, escapeAt, configAt, continuationAt}
+use Rattle.words.proofs.Bounds.{accept-sized, config-sized}
 use Rattle.rules.specs.Rules.{everyFrom, walk, everyIn}
 use Rattle.rules.specs.Rules as rules
 use Rattle.rules.proofs.Laws.{rest, passed, failed, judged-all}
 use Rattle.room.specs.Room.{startsFrom, starts, each, shifted, placed, laterPlaces, places}
 use Rattle.room.proofs.Writing.{was, record-limit}
-use Rattle.room.proofs.Records.{inner-fits, accept-flag, config-flag, config-other, continuation-configs, continuation-count}
-use Rattle.room.proofs.Tables.{before-1, before-2, before-3, before-4}
-use Rattle.judge.specs.Standing.{standsAt, fourStand, eightStand, standing, plain, emptyFrom, escapePlaces, widePlaces, acceptPlain, configPlain, continuationPlain, flagsPlain}
+use Rattle.room.proofs.Records.{inner-fits, continuation-configs, continuation-count}
+use Rattle.judge.specs.Standing.{standsAt, fourStand, eightStand, standing, behind, plain, emptyFrom, acceptPlain, configPlain, continuationPlain, flagsPlain}
 
 -- One number
 
@@ -91,25 +91,25 @@ module _ (g : ℕ → Place) (d : List ℕ) where
         go zero h i = absurd (not-suc-le-zero h)
         go (suc k) h i = rw sub-one (rw (← e, n, ← o, y) at i)
 
-    pub place-failed : {p : ℕ} {r : Place} {ok : Bool} → coming left here m ≡ all → 0 < left → got ≡ g here → got ≡ Next p → ok ≡ standsAt (here + 9) m d → ok ≡ false → r ≡ parse.refused NOT-TABLE 0 → r ≡ all
-    unfolding each starts startsFrom standing
-    place-failed {p} {r} i h e n o y j = go left h i
+    pub place-failed : {p : ℕ} {ok : Bool} → coming left here m ≡ all → 0 < left → got ≡ g here → got ≡ Next p → ok ≡ standsAt (here + 9) m d → ok ≡ false → length d + 1 ≡ behind all d
+    unfolding each starts startsFrom standing behind
+    place-failed {p} i h e n o y = go left h i
       where
-        go : (k : ℕ) → 0 < k → coming k here m ≡ all → r ≡ all
+        go : (k : ℕ) → 0 < k → coming k here m ≡ all → length d + 1 ≡ behind all d
         go zero h i = absurd (not-suc-le-zero h)
-        go (suc k) h i = j ∙ (rw (← e, n, ← o, y) at i)
+        go (suc k) h i = ap (λ (q : Place). behind q d) (rw (← e, n, ← o, y) at i)
 
-    pub place-lost : {r : Refusal} → coming left here m ≡ all → 0 < left → got ≡ g here → got ≡ Refused r → Next m ≡ all
-    unfolding each starts startsFrom standing
+    pub place-lost : {r : Refusal} → coming left here m ≡ all → 0 < left → got ≡ g here → got ≡ Refused r → m ≡ behind all d
+    unfolding each starts startsFrom standing behind
     place-lost i h e n = go left h i
       where
-        go : (k : ℕ) → 0 < k → coming k here m ≡ all → Next m ≡ all
+        go : (k : ℕ) → 0 < k → coming k here m ≡ all → m ≡ behind all d
         go zero h i = absurd (not-suc-le-zero h)
-        go (suc k) h i = rw (← e, n) at i
+        go (suc k) h i = ap (λ (q : Place). behind q d) (rw (← e, n) at i)
 
-  pub places-done : (left here m : ℕ) {all : Place} → coming left here m ≡ all → left ≤ 0 → Next m ≡ all
-  unfolding each starts standing
-  places-done zero here m i h = i
+  pub places-done : (left here m : ℕ) {all : Place} → coming left here m ≡ all → left ≤ 0 → m ≡ behind all d
+  unfolding each starts standing behind
+  places-done zero here m i h = ap (λ (q : Place). behind q d) i
   places-done (suc k) here m i h = absurd (not-suc-le-zero h)
 
 pub places-start : (read : List ℕ → ℕ → Place) (w d : List ℕ) (at n : ℕ) → coming (read w) d (getD w at 0) (at + 1) n ≡ standing (placed read w at) n d
@@ -131,50 +131,32 @@ standing-append (x ∷ xs) ys n d = go (standsAt x n d) (standing-append xs ys (
     go true h = h
     go false h = refl
 
--- a list stood, or did not
-module _ (xs ys : List ℕ) (n : ℕ) (d : List ℕ) {got : Place} where
-  stood : {p : ℕ} {r : Place} → got ≡ standing xs n d → got ≡ Next p → r ≡ standing ys p d → r ≡ standing (xs ++ ys) n d
-  unfolding andThen
-  stood e i h = h ∙ sym (standing-append xs ys n d ∙ (rw (← e, i)))
+-- nothing stands past the end
+past-stays : (ys : List ℕ) (d : List ℕ) → behind (standing ys (length d + 1) d) d ≡ length d + 1
+unfolding standing behind
+past-stays [] d = refl
+past-stays (y ∷ ys) d = let h : length d ≤ length d + 1 = omega arith in rw (← stands-past y (length d + 1) d h)
 
-  differed : {r : Refusal} → got ≡ standing xs n d → got ≡ Refused r → Refused r ≡ standing (xs ++ ys) n d
-  unfolding andThen
-  differed e i = sym (standing-append xs ys n d ∙ (rw (← e, i)))
+behind-append : (xs ys : List ℕ) (n : ℕ) (d : List ℕ) → behind (standing (xs ++ ys) n d) d ≡ behind (standing ys (behind (standing xs n d) d) d) d
+unfolding andThen behind
+behind-append xs ys n d = ap (λ (q : Place). behind q d) (standing-append xs ys n d) ∙ go (standing xs n d)
+  where
+    go : (o : Place) → behind (andThen o (λ p. standing ys p d)) d ≡ behind (standing ys (behind o d) d) d
+    go (Next p) = refl
+    go (Refused r) = sym (past-stays ys d)
 
--- of each part of the places
-module _ (w : List ℕ) (e c n : ℕ) (d : List ℕ) {got : Place} where
-  pub escapes-stood : {p : ℕ} {k : Place} → got ≡ standing (placed escapeAt w e) n d → got ≡ Next p → k ≡ standing (placed continuationAt w c) p d → k ≡ standing (escapePlaces w e c) n d
-  escapes-stood = stood (placed escapeAt w e) (placed continuationAt w c) n d
-
-  pub escapes-differed : {k : Refusal} → got ≡ standing (placed escapeAt w e) n d → got ≡ Refused k → Refused k ≡ standing (escapePlaces w e c) n d
-  escapes-differed = differed (placed escapeAt w e) (placed continuationAt w c) n d
-
-  module _ (x : ℕ) where
-    pub accepts-stood : {p : ℕ} {k : Place} → got ≡ standing (placed acceptAt w x) n d → got ≡ Next p → k ≡ standing (escapePlaces w e c) p d → k ≡ standing (laterPlaces w x e c) n d
-    unfolding laterPlaces
-    accepts-stood = stood (placed acceptAt w x) (escapePlaces w e c) n d
-
-    pub accepts-differed : {k : Refusal} → got ≡ standing (placed acceptAt w x) n d → got ≡ Refused k → Refused k ≡ standing (laterPlaces w x e c) n d
-    unfolding laterPlaces
-    accepts-differed = differed (placed acceptAt w x) (escapePlaces w e c) n d
-
-    module _ (v : ℕ) where
-      pub wide-stood : {p : ℕ} {k : Place} → got ≡ standing (placed wideAt w v) n d → got ≡ Next p → k ≡ standing (laterPlaces w x e c) p d → k ≡ standing (widePlaces w v x e c) n d
-      wide-stood = stood (placed wideAt w v) (laterPlaces w x e c) n d
-
-      pub wide-differed : {k : Refusal} → got ≡ standing (placed wideAt w v) n d → got ≡ Refused k → Refused k ≡ standing (widePlaces w v x e c) n d
-      wide-differed = differed (placed wideAt w v) (laterPlaces w x e c) n d
-
-      pub runs-stood : (r : ℕ) {p : ℕ} {k : Place} → got ≡ standing (placed runAt w r) n d → got ≡ Next p → k ≡ standing (widePlaces w v x e c) p d → k ≡ standing (places w r v x e c) n d
-      unfolding places
-      runs-stood r = stood (placed runAt w r) (widePlaces w v x e c) n d
-
-      pub runs-differed : (r : ℕ) {k : Refusal} → got ≡ standing (placed runAt w r) n d → got ≡ Refused k → Refused k ≡ standing (places w r v x e c) n d
-      unfolding places
-      runs-differed r = differed (placed runAt w r) (widePlaces w v x e c) n d
-
--- what a chain of places is left with
-pub ruleset chaining = (needs, escapes-stood, escapes-differed, accepts-stood, accepts-differed, wide-stood, wide-differed, runs-stood, runs-differed, before-1, before-2, before-3, before-4)
+-- the places of all records, kind by kind
+pub places-stood : (w : List ℕ) (r v x e c n : ℕ) (d : List ℕ) {i j k l m : ℕ} → i ≡ behind (standing (placed runAt w r) n d) d → j ≡ behind (standing (placed wideAt w v) i d) d
+    → k ≡ behind (standing (placed acceptAt w x) j d) d → l ≡ behind (standing (placed escapeAt w e) k d) d → m ≡ behind (standing (placed continuationAt w c) l d) d
+    → m ≡ behind (standing (places w r v x e c) n d) d
+unfolding places laterPlaces
+places-stood w r v x e c n d {i} {j} {k} {l} f g h o p =
+    let A = placed runAt w r in
+    let B = placed wideAt w v in
+    let C = placed acceptAt w x in
+    let D = placed escapeAt w e in
+    let E = placed continuationAt w c in
+    p ∙ sym (behind-append A (B ++ (C ++ (D ++ E))) n d ∙ (rw (← f) (behind-append B (C ++ (D ++ E)) i d ∙ (rw (← g) (behind-append C (D ++ E) j d ∙ (rw (← h) (behind-append D E k d ∙ (rw (← o)))))))))
 
 -- Flags
 
@@ -193,6 +175,15 @@ pub ruleset flagging = (needs, flags-start, passed, failed, lost, judged-all, wa
 
 -- the flags of a record, and of all, by the tests that are made
 module _ (w : List ℕ) where
+  pub accept-flag : (s : ℕ) {behind : ℕ} → acceptAt w s ≡ Next behind → s + 1 < length w
+  accept-flag s {behind} e = let r = accept-sized w s behind e in omega arith
+
+  pub config-flag : (s : ℕ) {behind : ℕ} → configAt w s ≡ Next behind → s + 2 < length w
+  config-flag s {behind} e = let r = config-sized w s behind e in omega arith
+
+  pub config-other : (s : ℕ) {behind : ℕ} → configAt w s ≡ Next behind → s + 3 < length w
+  config-other s {behind} e = let r = config-sized w s behind e in omega arith
+
   pub accept-plain : (s : ℕ) {p : Bool} → p ≡ plain (getD w (s + 1) 0) → p ≡ acceptPlain w s
   unfolding acceptPlain
   accept-plain s e = e

@@ -20,15 +20,15 @@ use Rattle.layout.specs.Layout.{unfound, layoutOf}
 use Rattle.layout.proofs.Found.{Laid, found}
 use Rattle.rules.specs.Rules.{broken}
 use Rattle.written.specs.Over.{zeros, padded}
-use Rattle.room.specs.Room.{four, header, made, places, body, numbers, laidOut, roomFor}
+use Rattle.limits.specs.Limits.{laidOut}
+use Rattle.room.specs.Room.{four, header, made, places, body, numbers, roomFor}
 use Rattle.room.proofs.Sizes.{ordered, made-length}
-use Rattle.room.proofs.Tables.{same-found}
 use Rattle.codec.specs.declared.Decoded.the-variants as decoded
 use Rattle.codec.specs.declared.Decoded.the-variants.{Table}
 use Rattle.codec.specs.Decode.{judged, decodedFrom, keptFrom}
-use Rattle.judge.specs.Standing.{standsAt, standing, emptyFrom, emptyBehind, fourStand, eightStand, flagsPlain, filled, sound}
+use Rattle.judge.specs.Standing.{standsAt, standing, behind, emptyFrom, emptyBehind, fourStand, eightStand, flagsPlain, filled, sound}
 use Rattle.judge.specs.Judge.{wordsPart, Part, accepted, isTable, tableIn}
-use Rattle.judge.proofs.Stood.{moved, alike, stands-in, cons-stands, cons-stood, append-stands, append-stood, stood-next, stood-is, stands-part, whole-stood, whole-stands}
+use Rattle.judge.proofs.Stood.{moved, alike, stands-in, cons-stands, cons-stood, append-stands, append-stood, stood-within, stood-next, stood-is, stands-part, whole-stood, whole-stands}
 use Rattle.judge.proofs.Plain.{plain-made, made-plain}
 
 -- The places of the sections
@@ -185,11 +185,35 @@ module _ (d : List ℕ) (k : ℕ) where
   unfolding wordsPart
   words-part e h l = let i : 9 + k - 9 ≡ getD d 0 0 = omega arith in record { is = rw i; limit = words-few l; room = h }
 
-pub ruleset judging = (needs, same-found, is-there, is-other, is-unlaid)
+pub same-found : (w : List ℕ) {x got : Sections} → got ≡ layoutOf w → got ≡ x → layoutOf w ≡ x
+same-found w g i = sym g ∙ i
+
+pub part-room : (w d : List ℕ) → Part w d → 16384 ≤ length d
+part-room w d p = p .room
+
+pub ruleset judging = (needs, part-room, same-found, is-there, is-other, is-unlaid)
 
 pub ruleset measuring = (needs, too-short, too-many, words-part, words-few)
 
 -- What comparing all numbers is left with
+
+-- the place behind a list is within the room exactly where the list stands
+module _ (xs : List ℕ) (n : ℕ) (d : List ℕ) {p : ℕ} where
+  past : p ≡ behind (standing xs n d) d → n ≤ length d → length d < p → false ≡ emptyBehind (standing xs n d) d
+  unfolding behind emptyBehind
+  past g l f = go (standing xs n d) refl g
+    where
+      go : (o : Place) → standing xs n d ≡ o → p ≡ behind o d → false ≡ emptyBehind o d
+      go (Next q) i k = absurd (omega (arith, stood-within xs n d q l i))
+      go (Refused q) i k = refl
+
+  here : p ≡ behind (standing xs n d) d → p ≤ length d → emptyFrom p d ≡ emptyBehind (standing xs n d) d
+  unfolding behind emptyBehind
+  here g f = go (standing xs n d) g
+    where
+      go : (o : Place) → p ≡ behind o d → emptyFrom p d ≡ emptyBehind o d
+      go (Next q) k = rw k
+      go (Refused q) k = absurd (omega arith)
 
 module _ (w d : List ℕ) (m s r a v x e c : ℕ) where
   pub filled-head : {ok : Bool} → ok ≡ eightStand m s r a v x e c d → ok ≡ false → false ≡ filled w m s r a v x e c d
@@ -200,16 +224,16 @@ module _ (w d : List ℕ) (m s r a v x e c : ℕ) where
   unfolding filled
   filled-flags o y u z = rw (← o, y, ← u, z)
 
-  module _ {ok t : Bool} {got : Place} where
-    pub filled-places : {q : Refusal} → ok ≡ eightStand m s r a v x e c d → ok ≡ true → t ≡ flagsPlain w x c → t ≡ true → got ≡ standing (places w r v x e c) (length w + 9) d → got ≡ Refused q
-        → false ≡ filled w m s r a v x e c d
-    unfolding filled emptyBehind
-    filled-places o y u z g f = rw (← o, y, ← u, z, ← g, f)
+  module _ {ok t : Bool} {p : ℕ} where
+    pub filled-places : ok ≡ eightStand m s r a v x e c d → ok ≡ true → t ≡ flagsPlain w x c → t ≡ true → p ≡ behind (standing (places w r v x e c) (length w + 9) d) d
+        → length w ≤ 8192 → 16384 ≤ length d → length d < p → false ≡ filled w m s r a v x e c d
+    unfolding filled
+    filled-places o y u z g h l f = rw (← o, y, ← u, z) (past (places w r v x e c) (length w + 9) d g (omega arith) f)
 
-    pub filled-all : {q : ℕ} {n : Bool} → ok ≡ eightStand m s r a v x e c d → ok ≡ true → t ≡ flagsPlain w x c → t ≡ true → got ≡ standing (places w r v x e c) (length w + 9) d → got ≡ Next q
-        → n ≡ emptyFrom q d → n ≡ filled w m s r a v x e c d
-    unfolding filled emptyBehind
-    filled-all o y u z g f h = h ∙ (rw (← o, y, ← u, z, ← g, f))
+    pub filled-all : {n : Bool} → ok ≡ eightStand m s r a v x e c d → ok ≡ true → t ≡ flagsPlain w x c → t ≡ true → p ≡ behind (standing (places w r v x e c) (length w + 9) d) d
+        → p ≤ length d → n ≡ emptyFrom p d → n ≡ filled w m s r a v x e c d
+    unfolding filled
+    filled-all o y u z g f h = h ∙ (rw (← o, y, ← u, z) (here (places w r v x e c) (length w + 9) d g f))
 
 -- no rule is broken, or one is
 module _ (w d : List ℕ) (m s r a v x e c : ℕ) {k : ℕ} where

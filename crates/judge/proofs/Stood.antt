@@ -74,6 +74,12 @@ module _ (xs ys : List ℕ) (n : ℕ) (d : List ℕ) {p : ℕ} where
       go (Next q) e k = (q, e, k)
       go (Refused r) e k = let z : _≡_ {A = ℕ} 0 1 = cc in absurd (omega arith)
 
+-- what stands ends within the room
+pub stood-within : (xs : List ℕ) (n : ℕ) (d : List ℕ) (p : ℕ) → n ≤ length d → standing xs n d ≡ Next p → p ≤ length d
+unfolding standing
+stood-within [] n d p l h = let e : n ≡ p = cc in omega arith
+stood-within (x ∷ xs) n d p l h = let s = cons-stood x xs n d h in stood-within xs (n + 1) d p (omega (arith, stands-is x n d (s .0) .0)) (s .1)
+
 -- the place behind it, and the numbers themselves
 pub stood-next : (xs : List ℕ) (n : ℕ) (d : List ℕ) (p : ℕ) → standing xs n d ≡ Next p → p ≡ n + length xs
 unfolding standing

@@ -1,7 +1,7 @@
 -- How a room is compared, number by number, with what decoding writes. Below, d is the room, w its words, and m s r a v x e c the places
 -- of the counts of modes, states, runs, ascii rows, wide rows, accepts, escape rows and continuations. Assumes nothing.
 use Prim.Native.Nat.{ℕ, _+_, _*_}
-use mathlib.Core.List.{List, [], _∷_, _++_}
+use mathlib.Core.List.{List, [], _∷_}
 use mathlib.Core.Bool.{Bool, false, _&&_}
 use lib.ListN.{length, getD, drop}
 use lib.Dec.{eqb, ltb, leb}
@@ -10,9 +10,9 @@ use Rattle.refusal.specs.Lists.{pick, every}
 use Rattle.words.specs.declared.Place.{Place}
 use Rattle.words.specs.declared.Place.the-variants.{Next, Refused}
 use Rattle.words.specs.Parse.{refused}
-use Rattle.words.specs.Records.{wideAt, acceptAt, escapeAt, configAt, continuationAt}
+use Rattle.words.specs.Records.{acceptAt, configAt, continuationAt}
 use Rattle.rules.specs.Rules.{everyIn, broken}
-use Rattle.room.specs.Room.{placed, laterPlaces, places}
+use Rattle.room.specs.Room.{places}
 
 -- Numbers that stand in a room
 
@@ -24,6 +24,11 @@ standsAt x n d = ltb n (length d) && eqb (getD d n 0) x
 unfoldable pub standing : List ℕ → ℕ → List ℕ → Place
 standing [] n d = Next n
 standing (x ∷ xs) n d = pick (standsAt x n d) (standing xs (n + 1) d) (refused NOT-TABLE 0)
+
+-- that place as a number: where the list does not stand, one past the end
+unfoldable pub behind : Place → List ℕ → ℕ
+behind (Next p) d = p
+behind (Refused r) d = length d + 1
 
 -- only zeros stand from n on
 unfoldable pub emptyFrom : ℕ → List ℕ → Bool
@@ -41,13 +46,6 @@ fourStand m s r a n d = ((standsAt (m + 9) n d && standsAt (s + 9) (n + 1) d) &&
 
 unfoldable pub eightStand : ℕ → ℕ → ℕ → ℕ → ℕ → ℕ → ℕ → ℕ → List ℕ → Bool
 eightStand m s r a v x e c d = fourStand m s r a 1 d && fourStand v x e c 5 d
-
--- where the records of the last two sections, and of the last four, start
-abbrev pub escapePlaces : List ℕ → ℕ → ℕ → List ℕ
-escapePlaces w e c = placed escapeAt w e ++ placed continuationAt w c
-
-abbrev pub widePlaces : List ℕ → ℕ → ℕ → ℕ → ℕ → List ℕ
-widePlaces w v x e c = placed wideAt w v ++ laterPlaces w x e c
 
 -- Flags that are 0 or 1
 

@@ -13,7 +13,6 @@ use refusal::MAX_WORDS;
 use refusal::NOT_TABLE;
 use refusal::ROOM_NUMBERS;
 use refusal::Refusal;
-use words::Place;
 
 mod flags;
 mod places;
@@ -56,6 +55,7 @@ fn is_filled(
 ) -> bool
     requires found { ⌜ layoutOf (now words) ≡ Found modes states runs «ascii_rows» «wide_rows» accepts «escape_rows» continuations ⌝ }
     requires limit { ⌜ length (now words) ≤ 8192 ⌝ }
+    requires fits { ⌜ 16384 ≤ length (now room) ⌝ }
     ensures { λ r. ⌜ r ≡ filled (now (words .entry)) modes states runs «ascii_rows» «wide_rows» accepts «escape_rows» continuations (now (room .entry)) ⌝ }
 {
     if places::eight_stand(
@@ -70,7 +70,7 @@ fn is_filled(
         room,
     ) {
         if flags::flags_are_plain(words, accepts, continuations) {
-            return match places::places_stand(
+            let p = places::places_stand(
                 words,
                 runs,
                 wide_rows,
@@ -79,10 +79,10 @@ fn is_filled(
                 continuations,
                 room,
                 words.len() + 9,
-            ) {
-                Place::Next(p) => is_empty_from(room, p),
-                Place::Refused(_) => false,
-            };
+            );
+            if p <= room.len() {
+                return is_empty_from(room, p);
+            }
         }
     }
     false
@@ -103,6 +103,7 @@ fn is_sound(
 ) -> bool
     requires found { ⌜ layoutOf (now words) ≡ Found modes states runs «ascii_rows» «wide_rows» accepts «escape_rows» continuations ⌝ }
     requires limit { ⌜ length (now words) ≤ 8192 ⌝ }
+    requires fits { ⌜ 16384 ≤ length (now room) ⌝ }
     ensures { λ r. ⌜ r ≡ sound (now (words .entry)) modes states runs «ascii_rows» «wide_rows» accepts «escape_rows» continuations (now (room .entry)) ⌝ }
 {
     let rule = index_rules::first_broken(

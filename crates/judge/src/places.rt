@@ -1,27 +1,13 @@
 // Whether the places of a table's sections and records stand in a room. Each function that compares a list goes on from place `n` of the
-// room and answers the place behind the list, or NOT-TABLE.
+// room and answers the place behind the list; where a number differs, one past the end of the room.
 ghost use mathlib.Core.Path.{_≡_};
 ghost use Prim.Native.Nat.{_≤_, _<_, _+_};
 ghost use lib.ListN.{length};
-ghost use Rattle.words.specs.Parse.{refused};
 ghost use Rattle.records.specs.Kinds.{recordAt};
-ghost use Rattle.refusal.specs.Said.{NOT-TABLE};
-ghost use Rattle.room.specs.Room.{placed, laterPlaces, places};
-ghost use Rattle.judge.specs.Standing.{standsAt, fourStand, eightStand, standing, escapePlaces, widePlaces};
+ghost use Rattle.room.specs.Room.{placed, places};
+ghost use Rattle.judge.specs.Standing.{standsAt, fourStand, eightStand, standing, behind};
 use records::Kind;
-use refusal::NOT_TABLE;
-use refusal::Refusal;
 use words::Place;
-
-// No table.
-fn differs() -> Place
-    ensures { λ r. ⌜ r ≡ refused NOT-TABLE 0 ⌝ }
-{
-    Place::Refused(Refusal {
-        number: NOT_TABLE,
-        place: 0,
-    })
-}
 
 // The place in the room of what is at `at` of the words stands at `n`.
 fn place_stands(at: usize, room: &[u32], n: usize) -> bool
@@ -66,10 +52,10 @@ pub(crate) fn eight_stand(
 }
 
 // The places of the records of a kind, whose count stands at `at`.
-fn record_places_stand(kind: Kind, words: &[u32], at: usize, room: &[u32], n: usize) -> Place
+fn record_places_stand(kind: Kind, words: &[u32], at: usize, room: &[u32], n: usize) -> usize
     requires within { ⌜ at < length (now words) ⌝ }
     requires limit { ⌜ length (now words) ≤ 8192 ⌝ }
-    ensures { λ r. ⌜ r ≡ standing (placed (recordAt kind) (now (words .entry)) at) n (now (room .entry)) ⌝ }
+    ensures { λ r. ⌜ r ≡ behind (standing (placed (recordAt kind) (now (words .entry)) at) n (now (room .entry))) (now (room .entry)) ⌝ }
 {
     let mut here = at + 1;
     let mut left = words[at];
@@ -82,73 +68,15 @@ fn record_places_stand(kind: Kind, words: &[u32], at: usize, room: &[u32], n: us
                     left -= 1;
                     m += 1;
                 } else {
-                    return differs();
+                    return room.len() + 1;
                 }
             }
             Place::Refused(_) => {
-                return Place::Next(m);
+                return m;
             }
         }
     }
-    Place::Next(m)
-}
-
-// The places of the escape rows, and of what is behind them.
-fn escape_places_stand(
-    words: &[u32],
-    escape_rows: usize,
-    continuations: usize,
-    room: &[u32],
-    n: usize,
-) -> Place
-    requires { ⌜ («escape_rows» ≤ continuations) × (continuations + 1 ≤ length (now words)) ⌝ }
-    requires limit { ⌜ length (now words) ≤ 8192 ⌝ }
-    ensures { λ r. ⌜ r ≡ standing (escapePlaces (now (words .entry)) «escape_rows» continuations) n (now (room .entry)) ⌝ }
-{
-    match record_places_stand(Kind::EscapeRow, words, escape_rows, room, n) {
-        Place::Next(p) => record_places_stand(Kind::Continuation, words, continuations, room, p),
-        Place::Refused(r) => Place::Refused(r),
-    }
-}
-
-// The places of the accepts, and of what is behind them.
-fn later_places_stand(
-    words: &[u32],
-    accepts: usize,
-    escape_rows: usize,
-    continuations: usize,
-    room: &[u32],
-    n: usize,
-) -> Place
-    requires { ⌜ (accepts ≤ «escape_rows») × ((«escape_rows» ≤ continuations) × (continuations + 1 ≤ length (now words))) ⌝ }
-    requires limit { ⌜ length (now words) ≤ 8192 ⌝ }
-    ensures { λ r. ⌜ r ≡ standing (laterPlaces (now (words .entry)) accepts «escape_rows» continuations) n (now (room .entry)) ⌝ }
-{
-    match record_places_stand(Kind::Accept, words, accepts, room, n) {
-        Place::Next(p) => escape_places_stand(words, escape_rows, continuations, room, p),
-        Place::Refused(r) => Place::Refused(r),
-    }
-}
-
-// The places of the wide rows, and of what is behind them.
-fn wide_places_stand(
-    words: &[u32],
-    wide_rows: usize,
-    accepts: usize,
-    escape_rows: usize,
-    continuations: usize,
-    room: &[u32],
-    n: usize,
-) -> Place
-    requires rows { ⌜ «wide_rows» ≤ accepts ⌝ }
-    requires { ⌜ (accepts ≤ «escape_rows») × ((«escape_rows» ≤ continuations) × (continuations + 1 ≤ length (now words))) ⌝ }
-    requires limit { ⌜ length (now words) ≤ 8192 ⌝ }
-    ensures { λ r. ⌜ r ≡ standing (widePlaces (now (words .entry)) «wide_rows» accepts «escape_rows» continuations) n (now (room .entry)) ⌝ }
-{
-    match record_places_stand(Kind::WideRow, words, wide_rows, room, n) {
-        Place::Next(p) => later_places_stand(words, accepts, escape_rows, continuations, room, p),
-        Place::Refused(r) => Place::Refused(r),
-    }
+    m
 }
 
 // All places of records.
@@ -161,24 +89,15 @@ pub(crate) fn places_stand(
     continuations: usize,
     room: &[u32],
     n: usize,
-) -> Place
+) -> usize
     requires rows { ⌜ (runs ≤ «wide_rows») × («wide_rows» ≤ accepts) ⌝ }
     requires { ⌜ (accepts ≤ «escape_rows») × ((«escape_rows» ≤ continuations) × (continuations + 1 ≤ length (now words))) ⌝ }
     requires limit { ⌜ length (now words) ≤ 8192 ⌝ }
-    ensures { λ r. ⌜ r ≡ standing (places (now (words .entry)) runs «wide_rows» accepts «escape_rows» continuations) n (now (room .entry)) ⌝ }
+    ensures { λ r. ⌜ r ≡ behind (standing (places (now (words .entry)) runs «wide_rows» accepts «escape_rows» continuations) n (now (room .entry))) (now (room .entry)) ⌝ }
 {
-    match record_places_stand(Kind::AsciiRun, words, runs, room, n) {
-        Place::Next(p) => {
-            wide_places_stand(
-                words,
-                wide_rows,
-                accepts,
-                escape_rows,
-                continuations,
-                room,
-                p,
-            )
-        }
-        Place::Refused(r) => Place::Refused(r),
-    }
+    let a = record_places_stand(Kind::AsciiRun, words, runs, room, n);
+    let b = record_places_stand(Kind::WideRow, words, wide_rows, room, a);
+    let c = record_places_stand(Kind::Accept, words, accepts, room, b);
+    let d = record_places_stand(Kind::EscapeRow, words, escape_rows, room, c);
+    record_places_stand(Kind::Continuation, words, continuations, room, d)
 }

@@ -17,7 +17,8 @@ use Rattle.layout.specs.declared.Sections.the-variants.{Found, Unfound}
 use Rattle.layout.specs.Layout.{unfound, layoutOf}
 use Rattle.rules.specs.Rules.{broken}
 use Rattle.written.specs.Over.{zeros}
-use Rattle.room.specs.Room.{laidOut, roomFor}
+use Rattle.limits.specs.Limits.{laidOut}
+use Rattle.room.specs.Room.{roomFor}
 use Rattle.codec.specs.declared.Decoded.{Decoded}
 use Rattle.codec.specs.Decode.{said, judged, decodedFrom, decodeOf, keptFrom, roomOf}
 use Rattle.table.specs.Table.{Table, wordsOf, Fields}

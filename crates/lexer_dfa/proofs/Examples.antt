@@ -17,7 +17,7 @@ use Rattle.words.specs.Records.{any, target, start}
 use Rattle.layout.specs.Layout.{onward, layoutOf}
 use Rattle.rules.specs.Rules.{everyFrom, walk, every, everyIn, good, noneOr, present, stateGood, targets, classifiedWords, stands, runGood, bothGood, wideGood, escapeGood, firstBroken}
 use Rattle.written.specs.Over.{padded}
-use Rattle.room.specs.Room.{laidOut}
+use Rattle.limits.specs.Limits.{laidOut}
 use Rattle.codec.specs.Decode.{decodedFrom, judged}
 use Rattle.transitions.specs.Transition.{anyHas, holds, holdAt, orderly, inOrder}
 use Rattle.transitions.specs.Intervals.{clip, clips, gaps, intervals, allIntervals, total}

@@ -14,8 +14,9 @@ use Rattle.room_read.specs.Room.{recordIn, listedIn, stateAt, follow}
 use Rattle.room_read.specs.Search.{found, searched, given}
 use Rattle.modes.specs.Start.{modeAt, modeStart}
 use Rattle.modes.specs.Modes.{stateCount, numbers, modesUpTo, ofModes, hasCompiledModes}
-use Rattle.mode_counts.specs.Written.{wrote, refused}
-use Rattle.mode_counts.specs.Counts.{compiledOf, differences, descent, countsFor, countsWith, asked, modeFlags, modeStateCounts}
+use Rattle.mode_flags.specs.Written.{wrote, refused}
+use Rattle.mode_flags.specs.Flags.{modeFlags}
+use Rattle.mode_counts.specs.Counts.{compiledOf, differences, descent, countsFor, countsWith, asked, modeStateCounts}
 use Rattle.targets.specs.Targets.{asciiRowAt, rowTarget, wideRowAt, asciiTarget, charTarget, eofTarget}
 use Rattle.accepts.specs.Accept.{acceptOf}
 use Rattle.accepts.specs.Record as accepts

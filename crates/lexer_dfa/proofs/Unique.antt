@@ -36,6 +36,7 @@ use Rattle.continuation_words.proofs.read_continuation.Reads as read-continuati
 use Rattle.records.proofs.read_record.Reads as read-record
 use Rattle.records.proofs.read_section.Reads as read-section
 use Rattle.layout.proofs.find_sections.Reads as find-sections
+use Rattle.limits.proofs.find_within_limits.Reads as find-within-limits
 use Rattle.rules.proofs.word_at.Reads as word-at
 use Rattle.rules.proofs.word_past.Reads as word-past
 use Rattle.rules.proofs.good.Reads as good
@@ -182,6 +183,11 @@ read-section-unique κs a x y e f p q = p ∙ sym q
 
 pub find-sections-unique : Determines find-sections.Learnt
 find-sections-unique κs a x y e f p q = p ∙ sym q
+
+-- limits
+
+pub find-within-limits-unique : Determines find-within-limits.Learnt
+find-within-limits-unique κs a x y e f p q = p ∙ sym q
 
 -- rules
 

@@ -13,9 +13,9 @@ use Rattle.modes.proofs.state_count.Reads as state-count
 use Rattle.all_modes.proofs.find_modes.Reads as find-modes
 use Rattle.all_modes.proofs.has_compiled_modes.Reads as has-compiled-modes
 use Rattle.modes.proofs.Laws as modes
-use Rattle.mode_counts.proofs.compiled_mode_flags.Reads as compiled-mode-flags
+use Rattle.mode_flags.proofs.compiled_mode_flags.Reads as compiled-mode-flags
+use Rattle.mode_flags.proofs.Lists as mode-lists
 use Rattle.mode_counts.proofs.mode_state_counts.Reads as mode-state-counts
-use Rattle.mode_counts.proofs.Answers as mode-counts
 use Rattle.targets.proofs.ascii_target.Reads as ascii-target
 use Rattle.char_targets.proofs.char_target.Reads as char-target
 use Rattle.char_targets.proofs.eof_target.Reads as eof-target
@@ -155,10 +155,10 @@ scan-ascii-run-unique κs a x y e f p q = (p .1 ∙ sym (q .1), p .0 ∙ sym (q 
 pub scan-ascii-run-length-unique : Determines scan-ascii-run-length.Learnt
 scan-ascii-run-length-unique κs a x y e f p q = state-run.said-one x y (p ∙ sym q)
 
--- mode_counts
+-- mode_flags and mode_counts
 
 pub compiled-mode-flags-unique : DeterminesBoth (λ κs e. e .1 .0) compiled-mode-flags.Learnt
-compiled-mode-flags-unique κs a x y e f p q = (mode-counts.said-one x y (p .says ∙ sym (q .says)), p .leaves ∙ sym (q .leaves))
+compiled-mode-flags-unique κs a x y e f p q = (mode-lists.said-one x y (p .says ∙ sym (q .says)), p .leaves ∙ sym (q .leaves))
 
 pub mode-state-counts-unique : DeterminesBoth (λ κs e. e .1 .0) mode-state-counts.Learnt
-mode-state-counts-unique κs a x y e f p q = (mode-counts.said-one x y (p .says ∙ sym (q .says)), p .leaves ∙ sym (q .leaves))
+mode-state-counts-unique κs a x y e f p q = (mode-lists.said-one x y (p .says ∙ sym (q .says)), p .leaves ∙ sym (q .leaves))

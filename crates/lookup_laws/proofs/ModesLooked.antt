@@ -13,8 +13,9 @@ use Rattle.refusal.specs.Fixed.{NONE}
 use Rattle.refusal.specs.Lists.{pick, some, every}
 use Rattle.modes.specs.Start.{compiled}
 use Rattle.modes.specs.Modes.{numbers, upTo, modesUpTo, ofModes, hasCompiledModes}
-use Rattle.mode_counts.specs.Written.{refused}
-use Rattle.mode_counts.specs.Counts.{flagsFor, modeFlags, countsFor, countsWith, asked, modeStateCounts}
+use Rattle.mode_flags.specs.Written.{refused}
+use Rattle.mode_flags.specs.Flags.{flagsFor, modeFlags}
+use Rattle.mode_counts.specs.Counts.{countsFor, countsWith, asked, modeStateCounts}
 use Rattle.table.specs.Table.{Table, Fields, All, Start, each, modeWords}
 use Rattle.table.specs.Rules.{Rules, NoneOr}
 use Rattle.table.proofs.Codec.{At, same, on, at-head}

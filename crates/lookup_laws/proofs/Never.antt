@@ -12,7 +12,7 @@ use Rattle.refusal.specs.Lists.{pick}
 use Rattle.ascii_run.specs.Shape as run
 use Rattle.ascii_run.specs.Classify.{classification}
 use Rattle.ascii_run.specs.Scan.{scanSaid}
-use Rattle.mode_counts.specs.Written as list
+use Rattle.mode_flags.specs.Written as list
 use Rattle.mode_counts.specs.Counts.{countsFor, descent, compiledOf}
 use Rattle.table.specs.Table.{Table}
 use Rattle.table.specs.Rules.{rowOf}

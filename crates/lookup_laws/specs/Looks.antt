@@ -16,7 +16,8 @@ use Rattle.table.specs.Table.{Table, State, Range, Accept, Escape, Config, Cont
 use Rattle.table.specs.Rules.{absent, rowOf}
 use Rattle.modes.specs.Start.{compiled, modeStart}
 use Rattle.modes.specs.Modes.{stateCount, hasCompiledModes}
-use Rattle.mode_counts.specs.Counts.{flagsFor, modeFlags, countsFor, modeStateCounts}
+use Rattle.mode_flags.specs.Flags.{flagsFor, modeFlags}
+use Rattle.mode_counts.specs.Counts.{countsFor, modeStateCounts}
 use Rattle.targets.specs.Targets.{asciiTarget, charTarget, eofTarget}
 use Rattle.accepts.specs.Accept.{acceptOf}
 use Rattle.accepts.specs.Record as accepts

@@ -6,8 +6,9 @@ use Rattle.refusal.specs.Said.{Said, no, NOT-TABLE}
 use Rattle.ascii_run.specs.Shape as run
 use Rattle.modes.specs.Start.{modeStart}
 use Rattle.modes.specs.Modes.{stateCount, hasCompiledModes}
-use Rattle.mode_counts.specs.Written as list
-use Rattle.mode_counts.specs.Counts.{modeFlags, modeStateCounts}
+use Rattle.mode_flags.specs.Written as list
+use Rattle.mode_flags.specs.Flags.{modeFlags}
+use Rattle.mode_counts.specs.Counts.{modeStateCounts}
 use Rattle.targets.specs.Targets.{asciiTarget, charTarget, eofTarget}
 use Rattle.accepts.specs.Accept.{acceptOf}
 use Rattle.accepts.specs.Record as accepts

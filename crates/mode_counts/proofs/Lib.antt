@@ -1,3 +1,3 @@
-pub mod Flags
+pub mod Walks
 pub mod Gaps
 pub mod Answers

@@ -1,26 +1,16 @@
--- The flags of the modes, and how many states each compiled mode has (document 01, "Lookups"). w is the room, l the starts of its modes,
--- c its state count, n how many numbers the lent buffer has. Assumes nothing.
+-- How many states each compiled mode has (document 01, "Lookups"). w is the room, l the starts of its modes, c its state count, n how many
+-- numbers the lent buffer has. Assumes nothing.
 use Prim.Native.Nat.{ℕ, suc, _-_}
-use mathlib.Core.List.{List, [], _∷_, _++_, map}
+use mathlib.Core.List.{List, [], _∷_, _++_}
 use lib.Dec.{ltb, leb}
 use lib.ListN.{length, getD}
 use Rattle.refusal.specs.Said.{Said, ok, no, ROOM, NOT-TABLE, ORDER}
 use Rattle.refusal.specs.Lists.{pick}
 use Rattle.modes.specs.Start.{compiled}
 use Rattle.modes.specs.Modes.{stateCount, modesUpTo, ofModes}
-use Rattle.mode_counts.specs.Written.{Wrote, wrote, refused}
+use Rattle.mode_flags.specs.Written.{Wrote, wrote, refused}
 
 -- "Mode flags and counts need one number for each answer; order 9, 7, 10."
-
--- a mode's flag: 1 where it is compiled, else 0
-abbrev pub flag : ℕ → ℕ
-flag x = pick (compiled x) 1 0
-
-abbrev pub flagsFor : ℕ → List ℕ → Wrote
-flagsFor n l = pick (ltb n (length l)) (refused ROOM 0) (wrote (map flag l))
-
-abbrev pub modeFlags : List ℕ → ℕ → Wrote
-modeFlags w n = ofModes w (modesUpTo w 65535) (flagsFor n) (refused NOT-TABLE 0)
 
 -- the starts of the compiled modes
 unfoldable pub compiledOf : List ℕ → List ℕ

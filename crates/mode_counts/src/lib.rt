@@ -1,13 +1,12 @@
-// The flags of all modes, and how many states each compiled mode has, written into a lent buffer. The room may be of any length and hold
-// any numbers.
+// How many states each compiled mode has, written into a lent buffer. The room may be of any length and hold any numbers.
 ghost use mathlib.Core.Path.{_≡_};
 ghost use Prim.Native.Nat.{_+_, _-_, _≤_};
-ghost use mathlib.Core.List.{map};
 ghost use lib.ListN.{length};
 ghost use Rattle.written.specs.Over.{Put, zeros};
 ghost use Rattle.modes.specs.Modes.{numbers};
-ghost use Rattle.mode_counts.specs.Written.{Writes, refused};
-ghost use Rattle.mode_counts.specs.Counts.{flag, flagsFor, modeFlags, compiledOf, countsOf, later, descent, countsFor, limitOf, countsWith, modeStateCounts, gap, step};
+ghost use Rattle.mode_flags.specs.Written.{Writes};
+ghost use Rattle.mode_counts.specs.Counts.{compiledOf, countsOf, later, descent, countsFor, limitOf, countsWith, modeStateCounts, gap, step};
+use mode_flags::Listed;
 use modes::Modes;
 use modes::StateCount;
 use refusal::NONE;
@@ -15,70 +14,6 @@ use refusal::NOT_TABLE;
 use refusal::ORDER;
 use refusal::ROOM;
 use refusal::Refusal;
-
-// How many numbers were written, or why none.
-pub enum Listed {
-    Numbers(usize),
-    Refused(Refusal),
-}
-
-// Refuses, with nothing written into a buffer of zeros.
-fn refuse(number: u32, place: usize, out: &mut [u32]) -> Listed
-    requires { ⌜ now out ≡ zeros (length (now out)) ⌝ }
-    ensures { λ r. ⌜ Writes r (length (now (out .entry))) (now (out .exit)) (refused number place) ⌝ }
-{
-    Listed::Refused(Refusal { number, place })
-}
-
-// 1 for a compiled mode, else 0.
-fn flag_of(start: u32) -> u32
-    ensures { λ r. ⌜ (r ≡ flag start) × (r ≤ 1) ⌝ }
-{
-    if start <= 65535 {
-        return 1;
-    }
-    0
-}
-
-fn put_flags(room: &[u32], at: usize, count: u32, out: &mut [u32]) -> usize
-    requires within { ⌜ at + count ≤ length (now room) ⌝ }
-    requires fits { ⌜ 0 + length (map flag (numbers (now room) count at)) ≤ length (now out) ⌝ }
-    ensures { λ r. ⌜ Put (map flag (numbers (now (room .entry)) count at)) 0 (now (out .entry)) r (now (out .exit)) ⌝ }
-{
-    let mut left = count;
-    let mut here = at;
-    let mut m = 0;
-    while 0 < left {
-        out[m] = flag_of(room[here]);
-        here += 1;
-        left -= 1;
-        m += 1;
-    }
-    m
-}
-
-// The flags of `count` modes from `at`, into a buffer of zeros.
-fn flags_into(room: &[u32], at: usize, count: u32, out: &mut [u32]) -> Listed
-    requires within { ⌜ at + count ≤ length (now room) ⌝ }
-    requires clear { ⌜ now out ≡ zeros (length (now out)) ⌝ }
-    ensures { λ r. ⌜ Writes r (length (now (out .entry))) (now (out .exit)) (flagsFor (length (now (out .entry))) (numbers (now (room .entry)) count at)) ⌝ }
-{
-    if out.len() < (count as usize) {
-        return refuse(ROOM, 0, out);
-    }
-    Listed::Numbers(put_flags(room, at, count, out))
-}
-
-// For each mode 1 where it is compiled, else 0.
-pub fn compiled_mode_flags(room: &[u32], out: &mut [u32]) -> Listed
-    ensures { λ r. ⌜ Writes r (length (now (out .entry))) (now (out .exit)) (modeFlags (now (room .entry)) (length (now (out .entry)))) ⌝ }
-{
-    written::clear(out);
-    match all_modes::find_modes(room, 65535) {
-        Modes::Starts(at, count) => flags_into(room, at, count, out),
-        Modes::Outside => refuse(NOT_TABLE, 0, out),
-    }
-}
 
 // How many modes are compiled.
 fn compiled_count(room: &[u32], at: usize, count: u32) -> u32
@@ -89,7 +24,7 @@ fn compiled_count(room: &[u32], at: usize, count: u32) -> u32
     let mut here = at;
     let mut k = 0;
     while 0 < left {
-        k += flag_of(room[here]);
+        k += (room[here] <= 65535) as u32;
         here += 1;
         left -= 1;
     }
@@ -184,11 +119,17 @@ fn counts_into(room: &[u32], at: usize, count: u32, states: u32, out: &mut [u32]
 {
     let compiled = compiled_count(room, at, count);
     if out.len() < (compiled as usize) {
-        return refuse(ROOM, 0, out);
+        return Listed::Refused(Refusal {
+            number: ROOM,
+            place: 0,
+        });
     }
     let place = first_descent(room, at, count);
     if place < count {
-        return refuse(ORDER, place as usize, out);
+        return Listed::Refused(Refusal {
+            number: ORDER,
+            place: place as usize,
+        });
     }
     Listed::Numbers(put_counts(room, at, count, states, out))
 }
@@ -208,7 +149,10 @@ fn counts_with(room: &[u32], states: u32, out: &mut [u32]) -> Listed
 {
     match all_modes::find_modes(room, limit_of(states)) {
         Modes::Starts(at, count) => counts_into(room, at, count, states, out),
-        Modes::Outside => refuse(NOT_TABLE, 0, out),
+        Modes::Outside => Listed::Refused(Refusal {
+            number: NOT_TABLE,
+            place: 0,
+        }),
     }
 }
 
@@ -219,6 +163,9 @@ pub fn mode_state_counts(room: &[u32], out: &mut [u32]) -> Listed
     written::clear(out);
     match modes::state_count(room) {
         StateCount::States(states) => counts_with(room, states, out),
-        StateCount::NotTable => refuse(NOT_TABLE, 0, out),
+        StateCount::NotTable => Listed::Refused(Refusal {
+            number: NOT_TABLE,
+            place: 0,
+        }),
     }
 }

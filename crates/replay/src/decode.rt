@@ -1,50 +1,8 @@
 // The record about decoding: a table's words are decoded into a room, and the answer and all of the room are compared.
 use crate::Replayed;
 use crate::read;
-use lexer_dfa::Decoded;
+use codec::Decoded;
 use refusal::ROOM_NUMBERS;
-ghost use Prim.Native.Nat.{_≤_};
-
-// The most words that a record has.
-const MOST: usize = 255;
-
-// What stands behind a record's words.
-struct Answer {
-    number: u32,
-    place: usize,
-    modes: u32,
-    states: u32,
-    words: usize,
-    check: u32,
-}
-
-fn wide(x: u8) -> u32 {
-    x as u32
-}
-
-fn size(x: u8) -> usize
-    ensures { λ r. ⌜ r ≤ 255 ⌝ }
-{
-    x as usize
-}
-
-// As many words as a record can have. Those behind its own are not read.
-fn words_of(list: &[u8]) -> [u32; MOST] {
-    let mut words = [0u32; MOST];
-    for i in 0..MOST {
-        words[i] = read::word(read::after(list, 4 * i));
-    }
-    words
-}
-
-// The first n words, or all of them where there are fewer.
-fn front(words: &[u32], n: usize) -> &[u32] {
-    if n <= words.len() {
-        &words[0..n]
-    } else {
-        words
-    }
-}
 
 // The sum of the sums after each number, which tells numbers in another order apart.
 fn check(room: &[u32]) -> u32 {
@@ -59,60 +17,37 @@ fn check(room: &[u32]) -> u32 {
     sums
 }
 
-fn answered(decoded: Decoded, check: u32) -> Answer {
+// A table has no refusal, and a refusal no table: what a record does not tell of is 0.
+fn same_answer(decoded: Decoded, recorded: &[u8]) -> bool {
     match decoded {
         Decoded::Table {
             modes,
             states,
             words,
-        } => Answer {
-            number: 0,
-            place: 0,
-            modes,
-            states,
-            words,
-            check,
-        },
-        Decoded::Refused(refusal) => Answer {
-            number: refusal.number,
-            place: refusal.place,
-            modes: 0,
-            states: 0,
-            words: 0,
-            check,
-        },
+        } => {
+            (read::half(recorded, 0) == 0)
+                & (modes as usize == read::small(recorded, 2))
+                & (states as usize == read::small(recorded, 3))
+                & (words == read::small(recorded, 4))
+        }
+        Decoded::Refused(refusal) => {
+            (refusal.number as usize == read::small(recorded, 0))
+                & (refusal.place == read::small(recorded, 1))
+                & (read::half(recorded, 2) == 0)
+                & (read::byte(recorded, 4) == 0)
+        }
     }
-}
-
-fn recorded(rest: &[u8]) -> Answer {
-    Answer {
-        number: wide(read::byte(rest, 0)),
-        place: size(read::byte(rest, 1)),
-        modes: wide(read::byte(rest, 2)),
-        states: wide(read::byte(rest, 3)),
-        words: size(read::byte(rest, 4)),
-        check: read::word(read::after(rest, 5)),
-    }
-}
-
-fn same_answer(a: Answer, b: Answer) -> bool {
-    (a.number == b.number)
-        & (a.place == b.place)
-        & (a.modes == b.modes)
-        & (a.states == b.states)
-        & (a.words == b.words)
-        & (a.check == b.check)
 }
 
 // No number of the room is 0 before, so that one which decoding leaves alone changes the check.
 pub(crate) fn replay_decode(record: &[u8]) -> Replayed {
-    let n = size(read::byte(record, 1));
-    let words = words_of(read::after(record, 2));
+    let n = read::small(record, 1);
+    let words = read::words(read::after(record, 2));
+    let recorded = read::after(record, 2 + 4 * n);
     let mut room = [1u32; ROOM_NUMBERS];
-    let decoded = lexer_dfa::decode(front(&words, n), &mut room);
-    let ours = answered(decoded, check(&room));
+    let decoded = codec::decode(read::first_words(&words, n), &mut room);
     Replayed {
-        bytes: 11 + 4 * n,
-        same: same_answer(ours, recorded(read::after(record, 2 + 4 * n))),
+        more: 10 + 4 * n,
+        same: same_answer(decoded, recorded) & (check(&room) == read::word(recorded, 5)),
     }
 }

@@ -1,5 +1,5 @@
 // Replays a sample of questions, with the answers that the Rust original gave to them, through the proved functions.
-// The sample comes from standard input, as the binary `record` of rust/compare writes it: at most 65,536 bytes, record after
+// The sample comes from standard input, as the binary `record` of rust/compare writes it: at most 65,535 bytes, record after
 // record, numbers with the least byte first. A record opens with a byte for its kind:
 //
 //     1 classify   state u16, another target u16, 16 bytes of bits (symbol k loops where bit k % 8 of byte k / 8 is set),
@@ -10,8 +10,8 @@
 //     4 decode     number of words u8, words, refusal u8: 0 accepted; place u8, modes u8, states u8, words u8,
 //                  check u32 of a room of 16,384 numbers: the sum of the sums after each number, in 32 bits
 //
-// It prints for each kind how many answers it replayed and how many of them differ. A record that cannot be read ends the replay,
-// with a line that says at which byte, so that a damaged sample cannot pass.
+// It prints how many of the bytes it came through, then for each kind how many of our answers are equal and how many differ. A record
+// that cannot be read ends the replay, which the first line shows, so that a damaged sample cannot pass.
 mod decode;
 mod read;
 mod runs;
@@ -19,79 +19,59 @@ mod tally;
 
 use libc::STDIN_FILENO;
 use tally::PLACES;
-use tally::Tally;
 
-// What came of a record: how many bytes it has, and whether our answer is the recorded one.
+// The end of each kind's line.
+const ENDS: [u8; 72] =
+    *b" differ: classify\n differ:    class\n differ:     scan\n differ:   decode\n";
+
+// What came of a record: how many bytes it has behind its first, and whether our answer is the recorded one.
 struct Replayed {
-    bytes: usize,
+    more: usize,
     same: bool,
 }
 
-// A record that cannot be read has no bytes.
-fn unreadable() -> Replayed {
-    Replayed {
-        bytes: 0,
-        same: false,
-    }
-}
-
-// The record at the front of what is left. A new kind gets an arm here and a place in `tally`.
+// The record at the front of what is left. One of no kind is longer than any sample. A new kind gets an arm here and a place in `tally`.
 fn replay_record(rest: &[u8]) -> Replayed {
     match read::byte(rest, 0) {
         1 => runs::replay_classify(rest),
         2 => runs::replay_class(rest),
         3 => runs::replay_scan(rest),
         4 => decode::replay_decode(rest),
-        _ => unreadable(),
+        _ => Replayed {
+            more: 65536,
+            same: false,
+        },
     }
 }
 
-// The answers replayed, and the byte up to which the sample was read.
-struct Progress {
-    tallies: [Tally; PLACES],
-    at: usize,
-}
-
-// Every record, up to the first that cannot be read or is not whole.
-fn replay(sample: &[u8]) -> Progress {
-    let mut tallies = tally::none();
+// Counts every record, up to the first that cannot be read or is not whole, and answers the byte up to which it came.
+fn replay(sample: &[u8], counts: &mut [usize]) -> usize {
     let mut at = 0;
     while at < sample.len() {
         let rest = &sample[at..];
         let replayed = replay_record(rest);
-        let bytes = replayed.bytes;
-        if bytes == 0 {
-            return Progress { tallies, at };
+        let more = replayed.more;
+        if rest.len() <= more {
+            return at;
         }
-        if rest.len() < bytes {
-            return Progress { tallies, at };
-        }
-        let counted = tally::count(tallies, read::byte(rest, 0), replayed.same);
-        tallies = counted;
-        at += bytes;
+        tally::count(counts, read::byte(rest, 0), replayed.same);
+        at += 1 + more;
     }
-    Progress { tallies, at }
+    at
 }
 
-fn report(progress: Progress, length: usize) {
-    if progress.at < length {
-        tally::print_place(b"no whole record at byte ", progress.at);
-    }
-    let tallies = progress.tallies;
-    tally::print_tallies(tallies);
+fn report(sample: &[u8]) {
+    let mut counts = [0usize; PLACES];
+    let at = replay(sample, &mut counts);
+    tally::print(at, b" of ", sample.len(), b" bytes\n");
+    tally::print_all(&counts, &ENDS);
 }
 
-// Whether the input goes on behind what was read.
-fn goes_on() -> bool {
-    let mut one = [0u8; 1];
-    io::read_full(STDIN_FILENO, &mut one) == 1
-}
-
+// Of an input that fills the buffer there may be more: it is no sample, and nothing is printed.
 fn main() {
     let mut sample = io::large_buffer();
     let n = io::read_full(STDIN_FILENO, &mut sample);
-    if goes_on() {
-        tally::print_place(b"bytes left over from byte ", n);
+    if n < 65536 {
+        report(&sample[..n]);
     }
-    report(replay(&sample[..n]), n);
 }

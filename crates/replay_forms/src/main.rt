@@ -1,10 +1,10 @@
 // Replays a sample of rows of four wide ranges, with where the Rust original leads on a symbol, through the search over range records; and runs the calls that are walked by
 // hand on what the original has no answer for: a row that does not ascend, and the opening of lists of words.
-// The sample comes from standard input, as the binary `record` of rust/compare writes it: at most 65,536 bytes, records of 46 bytes, numbers with the least byte first:
+// The sample comes from standard input, as the binary `record` of rust/compare writes it: at most 65,535 bytes, records of 46 bytes, numbers with the least byte first:
 //
 //     four ranges: low u32, high u32, target u16; symbol u32; the original's target u16
 //
-// It prints how many answers it replayed and how many of them differ. A record that is not whole ends the replay, with a line that says at which byte.
+// It prints how many records it replayed and how many of our answers differ, and how many bytes stand behind the last whole record, which must be none.
 mod read;
 
 use libc::STDIN_FILENO;
@@ -16,12 +16,12 @@ ghost use Rattle.wide_range.specs.Ranges.{targetIn};
 
 const RECORD: usize = 46;
 
-fn print(text: &[u8]) {
-    io::write_all(STDOUT_FILENO, text);
-}
-
-fn print_number(n: u64) {
-    io::print_decimal(STDOUT_FILENO, n);
+// Two numbers, and what stands behind each.
+fn print(first: usize, behind: &[u8], second: usize, end: &[u8]) {
+    io::print_decimal(STDOUT_FILENO, first as u64);
+    io::write_all(STDOUT_FILENO, behind);
+    io::print_decimal(STDOUT_FILENO, second as u64);
+    io::write_all(STDOUT_FILENO, end);
 }
 
 // The row is a local that is lent as a slice, which is walked by hand; what calls this is not.
@@ -33,9 +33,9 @@ fn target_in(row: [WideRange; 4], symbol: u32) -> u16
 
 fn range_at(s: &[u8]) -> WideRange {
     WideRange {
-        low: read::word(s),
-        high: read::word(read::after(s, 4)),
-        target: read::half(read::after(s, 8)),
+        low: read::word(s, 0),
+        high: read::word(s, 4),
+        target: read::half(s, 8),
     }
 }
 
@@ -49,62 +49,47 @@ fn row_at(s: &[u8]) -> [WideRange; 4] {
 }
 
 // 1 where our answer is not the recorded one.
-fn differs(rest: &[u8]) -> usize {
-    let symbol = read::word(read::after(rest, 40));
-    if target_in(row_at(rest), symbol) == read::half(read::after(rest, 44)) {
+fn differs(record: &[u8]) -> usize {
+    if target_in(row_at(record), read::word(record, 40)) == read::half(record, 44) {
         return 0;
     }
     1
 }
 
-// The answers replayed, how many differ, and the byte up to which the sample was read.
-struct Progress {
-    answers: usize,
-    differ: usize,
-    at: usize,
-}
-
-// Every record, up to the first that is not whole.
-fn replay_records(sample: &[u8]) -> Progress {
-    let mut answers: usize = 0;
+// How many of the whole records differ.
+fn replay(sample: &[u8]) -> usize {
     let mut differ: usize = 0;
     let mut at: usize = 0;
     while at < sample.len() {
         let rest = &sample[at..];
         if rest.len() < RECORD {
-            return Progress {
-                answers,
-                differ,
-                at,
-            };
+            return differ;
         }
-        answers = std::num::wrapping_add_usize(answers, 1);
         differ = std::num::wrapping_add_usize(differ, differs(rest));
         at += RECORD;
     }
-    Progress {
-        answers,
-        differ,
-        at,
-    }
+    differ
 }
 
-fn report(progress: Progress, length: usize) {
-    if progress.at < length {
-        print(b"no whole record at byte ");
-        print_number(progress.at as u64);
-        print(b"\n");
-    }
-    print(b"wide_target ");
-    print_number(progress.answers as u64);
-    print(b" answers, ");
-    print_number(progress.differ as u64);
-    print(b" differ\n");
+fn report(sample: &[u8]) {
+    let n = sample.len();
+    print(n % RECORD, b" left over of ", n, b" bytes\n");
+    print(
+        n / RECORD,
+        b" answers, ",
+        replay(sample),
+        b" differ: wide_target\n",
+    );
+}
+
+fn print_target(row: [WideRange; 4], symbol: u32) {
+    let target = target_in(row, symbol);
+    print(symbol as usize, b" leads to ", target as usize, b"\n");
 }
 
 // The first range whose high reaches 250 starts past it, though a later one holds it.
-fn falling() -> [WideRange; 4] {
-    [
+fn print_falling() {
+    let row = [
         WideRange {
             low: 900,
             high: 999,
@@ -125,37 +110,19 @@ fn falling() -> [WideRange; 4] {
             high: 0,
             target: 4,
         },
-    ]
+    ];
+    print_target(row, 250);
+    print_target(row, 950);
+    print_target(row, 1000);
+    print_target(row, 1001);
 }
 
-fn print_target(row: [WideRange; 4], symbol: u32) {
-    print_number(symbol as u64);
-    print(b" leads to ");
-    print_number(target_in(row, symbol) as u64);
-    print(b"\n");
-}
-
-fn print_falling() {
-    print_target(falling(), 250);
-    print_target(falling(), 950);
-    print_target(falling(), 1000);
-    print_target(falling(), 1001);
-}
-
+// The refusal, 0 for none, and then the modes or the place.
 fn print_opening(words: &[u32]) {
     match opening::read_opening(words) {
-        Opening::Modes(n) => {
-            print(b"modes ");
-            print_number(n as u64);
-        }
-        Opening::Refused(r) => {
-            print(b"refused ");
-            print_number(r.number as u64);
-            print(b" at ");
-            print_number(r.place as u64);
-        }
+        Opening::Modes(n) => print(0, b" refuses: modes ", n as usize, b"\n"),
+        Opening::Refused(r) => print(r.number as usize, b" refuses: at ", r.place, b"\n"),
     }
-    print(b"\n");
 }
 
 fn print_openings() {
@@ -166,10 +133,13 @@ fn print_openings() {
     print_opening(&words[1..]);
 }
 
+// Of an input that fills the buffer there may be more: it is no sample, and nothing is printed.
 fn main() {
     let mut sample = io::large_buffer();
     let n = io::read_full(STDIN_FILENO, &mut sample);
-    report(replay_records(&sample[..n]), n);
-    print_falling();
-    print_openings();
+    if n < 65536 {
+        report(&sample[..n]);
+        print_falling();
+        print_openings();
+    }
 }

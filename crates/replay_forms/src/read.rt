@@ -1,4 +1,4 @@
-// Reads what stands at the front of a slice. Past its end every byte is 0, so that no reader asks anything of its caller;
+// Reads what stands in a slice from a place on. Past its end every byte is 0, so that no reader asks anything of its caller;
 // whether a record is whole is seen from how many bytes are left.
 ghost use Prim.Native.Nat.{_<_};
 
@@ -23,10 +23,12 @@ fn wider(x: u16) -> u32
     x as u32
 }
 
-pub(crate) fn half(s: &[u8]) -> u16 {
-    wide(byte(s, 0)) + 256 * wide(byte(s, 1))
+pub(crate) fn half(s: &[u8], at: usize) -> u16 {
+    let t = after(s, at);
+    wide(byte(t, 0)) + 256 * wide(byte(t, 1))
 }
 
-pub(crate) fn word(s: &[u8]) -> u32 {
-    wider(half(s)) + 65536 * wider(half(after(s, 2)))
+pub(crate) fn word(s: &[u8], at: usize) -> u32 {
+    let t = after(s, at);
+    wider(half(t, 0)) + 65536 * wider(half(t, 2))
 }

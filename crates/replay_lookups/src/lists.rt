@@ -2,7 +2,7 @@
 use crate::Replayed;
 use crate::read;
 use encode::Encoded;
-use mode_counts::Listed;
+use mode_flags::Listed;
 use refusal::MAX_WORDS;
 
 // A refusal is a length that no output has.
@@ -37,19 +37,18 @@ fn encoded(answer: Encoded) -> usize {
 
 fn write(room: &[u32], kind: u8, out: &mut [u32]) -> usize {
     match kind {
-        11 => listed(mode_counts::compiled_mode_flags(room, out)),
+        11 => listed(mode_flags::compiled_mode_flags(room, out)),
         12 => listed(mode_counts::mode_state_counts(room, out)),
         _ => encoded(encode::encode(room, out)),
     }
 }
 
 // No number of the output is 0 before, so that one which is left alone changes the check.
-pub(crate) fn replay_list(room: &[u32], record: &[u8]) -> Replayed {
+pub(crate) fn replay_list(room: &[u32], kind: u8, record: &[u8]) -> Replayed {
     let mut out = [1u32; MAX_WORDS];
-    let length = write(room, read::byte(record, 0), &mut out);
+    let length = write(room, kind, &mut out);
     Replayed {
-        bytes: 7,
-        same: (length == read::size(read::after(record, 1)))
-            & (check(&out) == read::word(read::after(record, 3))),
+        more: 6,
+        same: (length == read::size(record, 1)) & (check(&out) == read::word(record, 3)),
     }
 }

@@ -63,51 +63,60 @@ fn points(answer: Covered) -> u32 {
     }
 }
 
-fn answer(room: &[u32], kind: u8, state: u16, symbol: &[u8]) -> u32 {
+// What kinds 1 to 9 answer.
+fn answer(room: &[u32], kind: u8, state: u16, symbol: u32, ascii: u8) -> u32 {
     match kind {
-        1 => start(modes::mode_start(room, read::word(symbol))),
+        1 => start(modes::mode_start(room, symbol)),
         2 => count(modes::state_count(room)),
         3 => accepted(accepts::accept(room, state)),
-        4 => target(targets::ascii_target(room, state, read::byte(symbol, 0))),
-        5 => target(char_targets::char_target(room, state, read::word(symbol))),
+        4 => target(targets::ascii_target(room, state, ascii)),
+        5 => target(char_targets::char_target(room, state, symbol)),
         6 => target(char_targets::eof_target(room, state)),
-        7 => continuation(continuations::char_continuation(room, state, read::word(symbol))),
+        7 => continuation(continuations::char_continuation(room, state, symbol)),
         8 => continuation(continuations::eof_continuation(room, state)),
         _ => points(coverage::coverage(room, state)),
     }
 }
 
-pub(crate) fn replay_number(room: &[u32], record: &[u8]) -> Replayed {
-    let state = read::half(read::after(record, 1));
-    let ours = answer(room, read::byte(record, 0), state, read::after(record, 3));
+// The ASCII symbol is the first byte of the symbol.
+pub(crate) fn replay_number(room: &[u32], kind: u8, record: &[u8]) -> Replayed {
+    let ours = answer(
+        room,
+        kind,
+        read::half(record, 1),
+        read::word(record, 3),
+        read::byte(record, 3),
+    );
     Replayed {
-        bytes: 11,
-        same: ours == read::word(read::after(record, 7)),
+        more: 10,
+        same: ours == read::word(record, 7),
     }
 }
 
-// Equal answers, and the part that the scan hands back is as long as the answer says.
+// Equal answers, and the part that the scan hands back is as long as the answer says. No record is of a refusal.
 fn same_scan(scan: StateScan, part: usize, recorded: &[u8]) -> bool {
-    let outcome = read::byte(recorded, 0);
-    let length = read::size(read::after(recorded, 1));
-    let exit = read::byte(recorded, 3) == 1;
     match scan {
-        StateScan::NoRun => (outcome == 1) & (part == length),
+        StateScan::NoRun => (read::word(recorded, 0) == 1) & (part == 0),
         StateScan::Skipped { bytes, found_exit } => {
-            (outcome == 2) & (bytes == length) & (part == length) & (found_exit == exit)
+            let exit = read::byte(recorded, 3);
+            (read::byte(recorded, 0) == 2)
+                & (bytes == read::size(recorded, 1))
+                & (bytes == part)
+                & (found_exit == (exit == 1))
+                & (exit < 2)
         }
         StateScan::NoAnswer(_) => false,
     }
 }
 
 pub(crate) fn replay_scan(room: &[u32], record: &[u8]) -> Replayed {
-    let state = read::half(read::after(record, 1));
-    let n = read::size(read::after(record, 3));
-    let input = read::front(read::after(record, 5), n);
+    let state = read::half(record, 1);
+    let n = read::size(record, 3);
+    let input = read::part(record, 5, n);
     let part = state_scan::scan_ascii_run(room, state, input);
     let scan = state_scan_length::scan_ascii_run_length(room, state, input);
     Replayed {
-        bytes: 9 + n,
+        more: 8 + n,
         same: same_scan(scan, part.len(), read::after(record, 5 + n)),
     }
 }

@@ -1,5 +1,5 @@
 // Replays a sample of lookups and encoding, with the answers that the Rust original gave, through the proved functions.
-// The sample comes from standard input, as the binary `record` of rust/compare writes it: at most 65,536 bytes, numbers with the
+// The sample comes from standard input, as the binary `record` of rust/compare writes it: at most 65,535 bytes, numbers with the
 // least byte first. A table stands first, its number of words u16 and its words; then record after record about it, each opening
 // with a byte for its kind:
 //
@@ -17,8 +17,8 @@
 //     12 mode_state_counts    the sum of the sums after each number, in 32 bits
 //     13 encode
 //
-// It prints for each kind how many answers it replayed and how many of them differ. A record that cannot be read ends the replay,
-// with a line that says at which byte, so that a damaged sample cannot pass; so does a table that is refused, at byte 0.
+// It prints how many of the bytes it came through, then for each kind how many of our answers are equal and how many differ. A record
+// that cannot be read ends the replay, which the first line shows, so that a damaged sample cannot pass; so does a table that is refused.
 mod lists;
 mod lookups;
 mod read;
@@ -28,86 +28,70 @@ use codec::Decoded;
 use libc::STDIN_FILENO;
 use refusal::ROOM_NUMBERS;
 use tally::PLACES;
-use tally::Tally;
 
-// What came of a record: how many bytes it has, and whether our answer is the recorded one.
+// The end of each kind's line.
+const ENDS: [u8; 377] =
+    *b" differ:          mode_start\n differ:         state_count\n differ:              accept\n differ:        ascii_target\n differ:         char_target\n differ:          eof_target\n differ:   char_continuation\n differ:    eof_continuation\n differ:            coverage\n differ:      scan_ascii_run\n differ: compiled_mode_flags\n differ:   mode_state_counts\n differ:              encode\n";
+
+// What came of a record: how many bytes it has behind its first, and whether our answer is the recorded one.
 struct Replayed {
-    bytes: usize,
+    more: usize,
     same: bool,
 }
 
-// A record of no kind has no bytes.
+// The record at the front of what is left. One of no kind is longer than any sample.
 fn replay_record(room: &[u32], rest: &[u8]) -> Replayed {
-    match read::byte(rest, 0) {
-        1..=9 => lookups::replay_number(room, rest),
+    let kind = read::byte(rest, 0);
+    match kind {
+        1..=9 => lookups::replay_number(room, kind, rest),
         10 => lookups::replay_scan(room, rest),
-        11..=13 => lists::replay_list(room, rest),
+        11..=13 => lists::replay_list(room, kind, rest),
         _ => Replayed {
-            bytes: 0,
+            more: 65536,
             same: false,
         },
     }
 }
 
-// The answers replayed, and the byte up to which the sample was read.
-struct Progress {
-    tallies: [Tally; PLACES],
-    at: usize,
-}
-
-// Every record from a byte on, up to the first that cannot be read or is not whole.
-fn replay_records(room: &[u32], sample: &[u8], from: usize) -> Progress {
-    let mut tallies = tally::none();
+// Counts every record, up to the first that cannot be read or is not whole, and answers the byte up to which it came.
+fn replay(room: &[u32], sample: &[u8], from: usize, counts: &mut [usize]) -> usize {
     let mut at = from;
     while at < sample.len() {
         let rest = &sample[at..];
         let replayed = replay_record(room, rest);
-        let bytes = replayed.bytes;
-        if bytes == 0 {
-            return Progress { tallies, at };
+        let more = replayed.more;
+        if rest.len() <= more {
+            return at;
         }
-        if rest.len() < bytes {
-            return Progress { tallies, at };
-        }
-        let counted = tally::count(tallies, read::byte(rest, 0), replayed.same);
-        tallies = counted;
-        at += bytes;
+        tally::count(counts, read::byte(rest, 0), replayed.same);
+        at += 1 + more;
     }
-    Progress { tallies, at }
+    at
 }
 
-fn replay(sample: &[u8]) -> Progress {
+// Replays what stands behind the table, where it is one.
+fn replay_table(sample: &[u8], counts: &mut [usize]) -> usize {
     let mut room = [0u32; ROOM_NUMBERS];
-    let bytes = 4 * read::size(sample);
-    let table = read::front(read::after(sample, 2), bytes);
-    match program_io::read_table(table, &mut room) {
-        Decoded::Table { .. } => replay_records(&room, sample, 2 + bytes),
-        Decoded::Refused(_) => Progress {
-            tallies: tally::none(),
-            at: 0,
-        },
+    let bytes = 4 * read::size(sample, 0);
+    let table = program_io::read_table(read::part(sample, 2, bytes), &mut room);
+    match table {
+        Decoded::Table { .. } => replay(&room, sample, 2 + bytes, counts),
+        Decoded::Refused(_) => 0,
     }
 }
 
-fn report(progress: Progress, length: usize) {
-    if progress.at < length {
-        tally::print_place(b"no whole record at byte ", progress.at);
-    }
-    let tallies = progress.tallies;
-    tally::print_tallies(tallies);
+fn report(sample: &[u8]) {
+    let mut counts = [0usize; PLACES];
+    let at = replay_table(sample, &mut counts);
+    tally::print(at, b" of ", sample.len(), b" bytes\n");
+    tally::print_all(&counts, &ENDS);
 }
 
-// Whether the input goes on behind what was read.
-fn goes_on() -> bool {
-    let mut one = [0u8; 1];
-    io::read_full(STDIN_FILENO, &mut one) == 1
-}
-
+// Of an input that fills the buffer there may be more: it is no sample, and nothing is printed.
 fn main() {
     let mut sample = io::large_buffer();
     let n = io::read_full(STDIN_FILENO, &mut sample);
-    if goes_on() {
-        tally::print_place(b"bytes left over from byte ", n);
+    if n < 65536 {
+        report(&sample[..n]);
     }
-    report(replay(&sample[..n]), n);
 }

@@ -1,4 +1,4 @@
-// Reads what stands at the front of a slice. Past its end every byte is 0, so that no reader asks anything of its caller;
+// Reads what stands in a slice from a place on. Past its end every byte is 0, so that no reader asks anything of its caller;
 // whether a record is whole is seen afterwards, from how many bytes it has.
 ghost use Prim.Native.Nat.{_<_};
 
@@ -11,9 +11,10 @@ pub(crate) fn after(s: &[u8], n: usize) -> &[u8] {
     if n <= s.len() { &s[n..] } else { &s[0..0] }
 }
 
-// The first n bytes, or all of them where there are fewer.
-pub(crate) fn front(s: &[u8], n: usize) -> &[u8] {
-    if n <= s.len() { &s[0..n] } else { s }
+// The n bytes from a place on, or all of them where there are fewer.
+pub(crate) fn part(s: &[u8], at: usize, n: usize) -> &[u8] {
+    let t = after(s, at);
+    if n <= t.len() { &t[0..n] } else { t }
 }
 
 fn wide(x: u8) -> u16
@@ -28,17 +29,19 @@ pub(crate) fn wider(x: u16) -> u32
     x as u32
 }
 
-pub(crate) fn half(s: &[u8]) -> u16 {
-    wide(byte(s, 0)) + 256 * wide(byte(s, 1))
+pub(crate) fn half(s: &[u8], at: usize) -> u16 {
+    let t = after(s, at);
+    wide(byte(t, 0)) + 256 * wide(byte(t, 1))
 }
 
-pub(crate) fn word(s: &[u8]) -> u32 {
-    wider(half(s)) + 65536 * wider(half(after(s, 2)))
+pub(crate) fn word(s: &[u8], at: usize) -> u32 {
+    let t = after(s, at);
+    wider(half(t, 0)) + 65536 * wider(half(t, 2))
 }
 
 // A half that says how many.
-pub(crate) fn size(s: &[u8]) -> usize
+pub(crate) fn size(s: &[u8], at: usize) -> usize
     ensures { λ r. ⌜ r < 65536 ⌝ }
 {
-    half(s) as usize
+    half(s, at) as usize
 }

@@ -6,27 +6,27 @@ pub struct Sums {
 
 pub const NONE: Sums = Sums { sum: 0, sums: 0 };
 
-fn with(before: Sums, x: u64) -> Sums {
-    let sum = std::num::wrapping_add_u64(before.sum, x);
+fn with_half(before: Sums, x: u16) -> Sums {
+    let sum = std::num::wrapping_add_u64(before.sum, x as u64);
     Sums {
         sum,
         sums: std::num::wrapping_add_u64(before.sums, sum),
     }
 }
 
-fn from_half(x: u16) -> u64 {
-    x as u64
-}
-
-fn from_word(x: u32) -> u64 {
-    x as u64
+fn with_word(before: Sums, x: u32) -> Sums {
+    let sum = std::num::wrapping_add_u64(before.sum, x as u64);
+    Sums {
+        sum,
+        sums: std::num::wrapping_add_u64(before.sums, sum),
+    }
 }
 
 pub(crate) fn of_halves(before: Sums, out: &[u16]) -> Sums {
     let mut sums = before;
     let mut i: usize = 0;
     while i < out.len() {
-        sums = with(sums, from_half(out[i]));
+        sums = with_half(sums, out[i]);
         i += 1;
     }
     sums
@@ -36,17 +36,20 @@ pub(crate) fn of_words(before: Sums, out: &[u32]) -> Sums {
     let mut sums = before;
     let mut i: usize = 0;
     while i < out.len() {
-        sums = with(sums, from_word(out[i]));
+        sums = with_word(sums, out[i]);
         i += 1;
     }
     sums
 }
 
-pub(crate) fn of_masks(before: Sums, out: &[u64]) -> Sums {
-    let mut sums = before;
+// The check over masks alone.
+pub(crate) fn of_masks(out: &[u64]) -> u64 {
+    let mut sum: u64 = 0;
+    let mut sums: u64 = 0;
     let mut i: usize = 0;
     while i < out.len() {
-        sums = with(sums, out[i]);
+        sum = std::num::wrapping_add_u64(sum, out[i]);
+        sums = std::num::wrapping_add_u64(sums, sum);
         i += 1;
     }
     sums

@@ -1,4 +1,5 @@
 // The records about a list of transitions. No number of a buffer is 0 before a call, so that one which is left alone changes the check.
+// No record is of a refusal.
 use crate::Replayed;
 use crate::check;
 use crate::read;
@@ -7,112 +8,74 @@ use rows::Rows;
 use segments::Segments;
 use transitions::Transitions;
 
-// What a call answered: two numbers, and the sums over its buffers.
-struct Answer {
-    first: usize,
-    second: usize,
-    sums: u64,
+// Two numbers that a call answered, and the sums over its buffers.
+fn same(first: usize, second: usize, sums: u64, recorded: &[u8]) -> bool {
+    (first == read::size(recorded, 0))
+        & (second == read::size(recorded, 2))
+        & (sums == read::check(recorded, 4))
 }
 
-// A refusal is a number that no record has, so it differs from each.
-const REFUSED: usize = 65536;
-
-fn intervals_of(list: &[u8]) -> Answer {
+fn same_intervals(list: &[u8], recorded: &[u8]) -> bool {
     let mut out = [1u32; 2048];
     let answer = interval_ends::read_intervals(list, &mut out);
     let sums = check::of_words(check::NONE, &out).sums;
     match answer {
-        Transitions::Read { count, intervals } => Answer {
-            first: count,
-            second: intervals,
-            sums,
-        },
-        Transitions::Refused(_) => Answer {
-            first: REFUSED,
-            second: 0,
-            sums,
-        },
+        Transitions::Read { count, intervals } => same(count, intervals, sums, recorded),
+        Transitions::Refused(_) => false,
     }
 }
 
-fn segments_of(list: &[u8]) -> Answer {
+fn same_segments(list: &[u8], recorded: &[u8]) -> bool {
     let mut out = [1u32; 4096];
     let answer = segments::char_segments(list, &mut out);
     let sums = check::of_words(check::NONE, &out).sums;
     match answer {
-        Segments::Count(n) => Answer {
-            first: n,
-            second: 0,
-            sums,
-        },
-        Segments::Refused(_) => Answer {
-            first: REFUSED,
-            second: 0,
-            sums,
-        },
+        Segments::Count(n) => same(n, 0, sums, recorded),
+        Segments::Refused(_) => false,
     }
 }
 
-fn masked(answer: Masks, sums: u64) -> Answer {
+fn same_masks(answer: Masks, out: &[u64], recorded: &[u8]) -> bool {
     match answer {
-        Masks::Count { masks, words } => Answer {
-            first: masks,
-            second: words,
-            sums,
-        },
-        Masks::Refused(_) => Answer {
-            first: REFUSED,
-            second: 0,
-            sums,
-        },
+        Masks::Count { masks, words } => { same(masks, words, check::of_masks(out), recorded) }
+        Masks::Refused(_) => false,
     }
 }
 
-fn matrix_of(list: &[u8]) -> Answer {
+fn same_matrix(list: &[u8], recorded: &[u8]) -> bool {
     let mut segments = [1u32; 4096];
     let mut out = [1u64; 8192];
     let answer = masks::segment_mask_matrix(list, &mut segments, &mut out);
-    masked(answer, check::of_masks(check::NONE, &out).sums)
+    same_masks(answer, &out, recorded)
 }
 
-fn distinct_of(list: &[u8]) -> Answer {
+fn same_distinct(list: &[u8], recorded: &[u8]) -> bool {
     let mut segments = [1u32; 4096];
     let mut masks = [1u64; 8192];
     let mut out = [1u64; 8192];
     let answer = distinct_masks::distinct_masks(list, &mut segments, &mut masks, &mut out);
-    masked(answer, check::of_masks(check::NONE, &out).sums)
+    same_masks(answer, &out, recorded)
 }
 
-fn built(rows: Rows, sums: u64) -> Answer {
+fn same_built(rows: Rows, ascii: &[u16], wide: &[u32], escape: &[u32], recorded: &[u8]) -> bool {
+    let sums = check::of_words(check::of_halves(check::NONE, ascii), wide);
+    let sums = check::of_words(sums, escape).sums;
     match rows {
-        Rows::Built { wide, escape } => Answer {
-            first: wide,
-            second: escape,
-            sums,
-        },
-        Rows::Refused(_) => Answer {
-            first: REFUSED,
-            second: 0,
-            sums,
-        },
+        Rows::Built { wide, escape } => same(wide, escape, sums, recorded),
+        Rows::Refused(_) => false,
     }
 }
 
-fn sums_of(ascii: &[u16], wide: &[u32], escape: &[u32]) -> u64 {
-    let sums = check::of_halves(check::NONE, ascii);
-    let sums = check::of_words(sums, wide);
-    check::of_words(sums, escape).sums
-}
-
 // The buffers of a row call stand in two functions, three in each: one that has all six takes long to check.
-fn rows_with(
+fn same_with(
     list: &[u8],
     targets: &[u16],
     continuations: &[u32],
     segments: &mut [u32],
     masks: &mut [u64],
     distinct: &mut [u64],
-) -> Answer {
+    recorded: &[u8],
+) -> bool {
     let mut ascii = [1u16; 128];
     let mut wide = [1u32; 6144];
     let mut escape = [1u32; 6144];
@@ -127,59 +90,57 @@ fn rows_with(
         &mut wide,
         &mut escape,
     );
-    built(rows, sums_of(&ascii, &wide, &escape))
+    same_built(rows, &ascii, &wide, &escape, recorded)
 }
 
-fn rows_of(list: &[u8], targets: &[u16], continuations: &[u32]) -> Answer {
+fn same_rows(list: &[u8], targets: &[u16], continuations: &[u32], recorded: &[u8]) -> bool {
     let mut segments = [1u32; 4096];
     let mut masks = [1u64; 8192];
     let mut distinct = [1u64; 8192];
-    rows_with(
+    same_with(
         list,
         targets,
         continuations,
         &mut segments,
         &mut masks,
         &mut distinct,
+        recorded,
     )
 }
 
-// So many targets and continuations, from the front of each part. No record tells of more than 64.
-fn given_rows(list: &[u8], count: usize, first: &[u8], second: &[u8]) -> Answer {
+// How many masks are given, then a target and then a continuation for each. No record tells of more than 64.
+fn same_given(list: &[u8], given: &[u8], recorded: &[u8]) -> bool {
+    let count = read::size(given, 0);
     let mut targets = [0u16; 64];
     let mut continuations = [0u32; 64];
-    read::halves(first, &mut targets);
-    read::words(second, &mut continuations);
-    rows_of(
+    read::halves(given, 2, &mut targets);
+    read::words(given, 2 + 2 * count, &mut continuations);
+    same_rows(
         list,
         read::first_halves(&targets, count),
         read::first_words(&continuations, count),
+        recorded,
     )
 }
 
-fn same(answer: Answer, recorded: &[u8]) -> bool {
-    (answer.first == read::size(recorded))
-        & (answer.second == read::size(read::after(recorded, 2)))
-        & (answer.sums == read::check(read::after(recorded, 4)))
+fn same_answer(kind: u8, list: &[u8], given: &[u8], recorded: &[u8]) -> bool {
+    match kind {
+        1 => same_intervals(list, recorded),
+        2 => same_segments(list, recorded),
+        3 => same_matrix(list, recorded),
+        4 => same_distinct(list, recorded),
+        _ => same_given(list, given, recorded),
+    }
 }
 
-// The list's length, the list, how many masks are given, what they are given, and the answer.
-pub(crate) fn replay_list(record: &[u8]) -> Replayed {
-    let kind = read::byte(record, 0);
-    let length = read::size(read::after(record, 1));
-    let list = read::front(read::after(record, 3), length);
-    let rest = read::after(record, 3 + length);
-    let count = read::size(rest);
-    let given = read::after(rest, 2);
-    let answer = match kind {
-        1 => intervals_of(list),
-        2 => segments_of(list),
-        3 => matrix_of(list),
-        4 => distinct_of(list),
-        _ => given_rows(list, count, given, read::after(given, 2 * count)),
-    };
+// The list's length, the list, what the masks are given, and the answer.
+pub(crate) fn replay_list(kind: u8, record: &[u8]) -> Replayed {
+    let length = read::size(record, 1);
+    let list = read::part(record, 3, length);
+    let given = read::after(record, 3 + length);
+    let bytes = 2 + 6 * read::size(given, 0);
     Replayed {
-        bytes: 17 + length + 6 * count,
-        same: same(answer, read::after(given, 6 * count)),
+        more: 14 + length + bytes,
+        same: same_answer(kind, list, given, read::after(given, bytes)),
     }
 }

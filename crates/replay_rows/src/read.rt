@@ -1,4 +1,4 @@
-// Reads what stands at the front of a slice. Past its end every byte is 0, so that no reader asks anything of its caller;
+// Reads what stands in a slice from a place on. Past its end every byte is 0, so that no reader asks anything of its caller;
 // whether a record is whole is seen afterwards, from how many bytes it has.
 ghost use Prim.Native.Nat.{_<_};
 
@@ -11,9 +11,10 @@ pub(crate) fn after(s: &[u8], n: usize) -> &[u8] {
     if n <= s.len() { &s[n..] } else { &s[0..0] }
 }
 
-// The first n bytes, or all of them where there are fewer.
-pub(crate) fn front(s: &[u8], n: usize) -> &[u8] {
-    if n <= s.len() { &s[0..n] } else { s }
+// The n bytes from a place on, or all of them where there are fewer.
+pub(crate) fn part(s: &[u8], at: usize, n: usize) -> &[u8] {
+    let t = after(s, at);
+    if n <= t.len() { &t[0..n] } else { t }
 }
 
 fn wide(x: u8) -> u16
@@ -28,24 +29,21 @@ fn wider(x: u16) -> u32
     x as u32
 }
 
-pub(crate) fn half(s: &[u8]) -> u16 {
-    wide(byte(s, 0)) + 256 * wide(byte(s, 1))
+pub(crate) fn half(s: &[u8], at: usize) -> u16 {
+    let t = after(s, at);
+    wide(byte(t, 0)) + 256 * wide(byte(t, 1))
 }
 
-pub(crate) fn word(s: &[u8]) -> u32 {
-    wider(half(s)) + 65536 * wider(half(after(s, 2)))
+pub(crate) fn word(s: &[u8], at: usize) -> u32 {
+    let t = after(s, at);
+    wider(half(t, 0)) + 65536 * wider(half(t, 2))
 }
 
 // A half that says how many.
-pub(crate) fn size(s: &[u8]) -> usize
+pub(crate) fn size(s: &[u8], at: usize) -> usize
     ensures { λ r. ⌜ r < 65536 ⌝ }
 {
-    half(s) as usize
-}
-
-// A check, of 64 bits.
-pub(crate) fn check(s: &[u8]) -> u64 {
-    longer(word(s)) + 4294967296 * longer(word(after(s, 4)))
+    half(s, at) as usize
 }
 
 fn longer(x: u32) -> u64
@@ -54,23 +52,29 @@ fn longer(x: u32) -> u64
     x as u64
 }
 
+// A check, of 64 bits.
+pub(crate) fn check(s: &[u8], at: usize) -> u64 {
+    let t = after(s, at);
+    longer(word(t, 0)) + 4294967296 * longer(word(t, 4))
+}
+
 // As many halves as there is place for.
-pub(crate) fn halves(s: &[u8], out: &mut [u16]) {
-    let mut at: usize = 0;
+pub(crate) fn halves(s: &[u8], from: usize, out: &mut [u16]) {
+    let mut at = from;
     let mut i: usize = 0;
     while i < out.len() {
-        out[i] = half(after(s, at));
+        out[i] = half(s, at);
         at = std::num::wrapping_add_usize(at, 2);
         i += 1;
     }
 }
 
 // As many words as there is place for.
-pub(crate) fn words(s: &[u8], out: &mut [u32]) {
-    let mut at: usize = 0;
+pub(crate) fn words(s: &[u8], from: usize, out: &mut [u32]) {
+    let mut at = from;
     let mut i: usize = 0;
     while i < out.len() {
-        out[i] = word(after(s, at));
+        out[i] = word(s, at);
         at = std::num::wrapping_add_usize(at, 4);
         i += 1;
     }

@@ -1,4 +1,5 @@
 pub mod Writing
+pub mod Parts
 pub mod Records
 pub mod Sizes
 pub mod Tables

@@ -1,7 +1,7 @@
 -- The laws of writing one record, by the tests and stores that the code makes. Assumes nothing.
 use Prim.Native.Nat.{ℕ, _+_, _*_, _-_, _^_, _<_, _≤_}
 use native.Mathlib.Omega.{arith}
-use mathlib.Core.Path.{_≡_, refl, sym, ap, subst}
+use mathlib.Core.Path.{_≡_, refl, sym, ap, subst, _∙_}
 use mathlib.Core.List.{List, [], _∷_, _++_, append-nil}
 use mir.Syntax.{w64}
 use mir.Val.{Fits}
@@ -10,13 +10,19 @@ use borrow.Author.Tests.{eq-eqb, ne-eqb, ltb-true}
 use mathlib.Core.Bool.{true}
 use lib.Dec.{ltb}
 use lib.ListN.{length, getD, set, length-set, length-append}
+use Rattle.words.specs.declared.Place.{Place}
 use Rattle.words.specs.declared.Place.the-variants.{Next}
-use Rattle.words.specs.Records.{acceptAt, configAt, continuationAt}
+use Rattle.words.specs.Records.{configAt, continuationAt}
 use Rattle.words.proofs.Bounds.{accept-sized, config-sized, configs-behind, section-in}
 use Rattle.written.specs.Over.{Put}
 use Rattle.written.proofs.Overs.{lay-none}
-use Rattle.written.proofs.Going.{Going, going-start, going-turn, going-done, put-one, put-two, put-size-2, put-size-4}
-use Rattle.room.specs.Room.{copied, flag, renewed, acceptMade, configMade, continuationMade, shifted}
+use Rattle.written.proofs.Going.{Going, going-start, going-turn, going-done, put-one}
+use Rattle.room.specs.Room.{each, copied, flag, renewed, acceptMade, configMade, continuationMade, shifted}
+use Rattle.room.specs.declared.Flagged.{Flagged}
+use Rattle.room.specs.declared.Flagged.the-variants.{Accept, Config}
+use Rattle.room.specs.Flagged.{leads, flags, flaggedAt, flaggedMade}
+use Rattle.room.proofs.Parts.{three-0, three-1, three-2, three-put}
+use Rattle.room.proofs.Writing.{copied-open, copied-done}
 
 -- A place inside a list is a number of the machine
 
@@ -42,142 +48,82 @@ place-put p n d h = put-one (p + 9) [] n d (record { next = omega arith; is = sy
 
 pub ruleset shifting = (needs, place-put)
 
--- An accept
+-- A record with flags: k words, k flags, and the rest
+
+-- what the kind is for
+pub of-kind : (w : List ℕ) (at : ℕ) {k one : Flagged} {r : Place} → k ≡ one → r ≡ flaggedAt one w at → r ≡ flaggedAt k w at
+of-kind w at e h = rw e h
+
+pub leads-of : {k one : Flagged} {r : ℕ} → k ≡ one → r ≡ leads one → r ≡ leads k
+leads-of e h = rw e h
+
+pub ruleset kinds = (needs, of-kind, leads-of)
 
 module _ (w : List ℕ) (at : ℕ) where
-  accept-made : {behind : ℕ} → acceptAt w at ≡ Next behind → acceptMade w at ≡ getD w at 0 ∷ flag (getD w (at + 1) 0) ∷ copied w (at + 2) (behind - (at + 2))
-  unfolding acceptMade
-  accept-made {behind} e =
-      let i : behind - (at + 2) ≡ getD w (at + 2) 0 * 3 + 1 = omega (arith, accept-sized w at behind e .0) in
-      rw i
+  copied-one : at < length w → copied w at 1 ≡ getD w at 0 ∷ []
+  copied-one h = copied-open w at 1 (omega arith) (omega arith) ∙ ap (λ (l : List ℕ). getD w at 0 ∷ l) (copied-done w (at + 1) 0 (omega arith))
 
-  pub accept-rule : {behind : ℕ} → acceptAt w at ≡ Next behind → at < length w
-  accept-rule {behind} e = let r = accept-sized w at behind e in omega arith
+  copied-two : at + 1 < length w → copied w at 2 ≡ getD w at 0 ∷ getD w (at + 1) 0 ∷ []
+  copied-two h = copied-open w at 2 (omega arith) (omega arith) ∙ ap (λ (l : List ℕ). getD w at 0 ∷ l) (copied-open w (at + 1) 1 (omega arith) (omega arith) ∙ ap (λ (l : List ℕ). getD w (at + 1) 0 ∷ l) (copied-done w (at + 1 + 1) 0 (omega arith)))
 
-  pub accept-flag : {behind : ℕ} → acceptAt w at ≡ Next behind → at + 1 < length w
-  accept-flag {behind} e = let r = accept-sized w at behind e in omega arith
+module _ (w : List ℕ) (at : ℕ) {behind : ℕ} where
+  sized : (kind : Flagged) → flaggedAt kind w at ≡ Next behind → (at + leads kind + leads kind < behind) × (behind ≤ length w)
+  sized Accept e = let r = accept-sized w at behind e in (omega arith, r .1)
+  sized Config e = let r = config-sized w at behind e in (omega arith, r .1)
 
-  pub accept-count : {behind : ℕ} → acceptAt w at ≡ Next behind → at + 2 < length w
-  accept-count {behind} e = let r = accept-sized w at behind e in omega arith
+  made-of : (kind : Flagged) → flaggedAt kind w at ≡ Next behind
+      → flaggedMade kind w at ≡ copied w at (leads kind) ++ (flags w (at + leads kind) (leads kind) ++ copied w (at + leads kind + leads kind) (behind - (at + leads kind + leads kind)))
+  unfolding acceptMade configMade flags each
+  made-of Accept e =
+      let r = accept-sized w at behind e in
+      let i : behind - (at + 2) ≡ getD w (at + 2) 0 * 3 + 1 = omega arith in
+      let j : at + 1 + 1 ≡ at + 2 = omega arith in
+      rw (copied-one w at (omega arith), copied-one w (at + 1) (omega arith), j, i)
+  made-of Config e =
+      let r = config-sized w at behind e in
+      let i : behind - (at + 4) ≡ getD w (at + 5) 0 * 3 + 2 = omega arith in
+      let j : at + 2 + 2 ≡ at + 4 = omega arith in
+      let k : at + 2 + 1 ≡ at + 3 = omega arith in
+      rw (copied-two w at (omega arith), copied-two w (at + 2) (omega arith), j, k, i)
 
-  pub accept-rest : {behind : ℕ} → acceptAt w at ≡ Next behind → at + 2 + (behind - (at + 2)) ≤ length w
-  accept-rest {behind} e = let r = accept-sized w at behind e in omega arith
+  module _ (kind : Flagged) {k : ℕ} where
+    made-in : k ≡ leads kind → flaggedAt kind w at ≡ Next behind → flaggedMade kind w at ≡ copied w at k ++ (flags w (at + k) k ++ copied w (at + k + k) (behind - (at + k + k)))
+    made-in i e = rw i (made-of kind e)
 
-  pub accept-behind : {behind : ℕ} → acceptAt w at ≡ Next behind → at + 2 ≤ behind
-  accept-behind {behind} e = let r = accept-sized w at behind e in omega arith
+    pub flags-behind : k ≡ leads kind → flaggedAt kind w at ≡ Next behind → at + k + k ≤ behind
+    flags-behind i e = let r = sized kind e in omega (arith, r .0)
 
-  module _ (n : ℕ) (d : List ℕ) {behind : ℕ} where
-    accept-long : acceptAt w at ≡ Next behind → n + length (acceptMade w at) ≤ length d → n + 2 + length (copied w (at + 2) (behind - (at + 2))) ≤ length d
-    accept-long e h = let l = ap length (accept-made e) in omega arith
+    pub leads-within : k ≡ leads kind → flaggedAt kind w at ≡ Next behind → at + k ≤ length w
+    leads-within i e = let r = sized kind e in omega (arith, r .0, r .1)
 
-    pub accept-fits : (x y : ℕ) → acceptAt w at ≡ Next behind → n + length (acceptMade w at) ≤ length d
-        → n + 2 + length (copied w (at + 2) (behind - (at + 2))) ≤ length (set (set d n x) (n + 1) y)
-    accept-fits x y e h = omega (arith, accept-long e h, length-set d n x, length-set (set d n x) (n + 1) y)
+    pub flags-within : k ≡ leads kind → flaggedAt kind w at ≡ Next behind → at + k + k ≤ length w
+    flags-within i e = let r = sized kind e in omega (arith, r .0, r .1)
 
-    pub accept-put : {v r : ℕ} {new : List ℕ} → acceptAt w at ≡ Next behind → n + length (acceptMade w at) ≤ length d → v ≡ flag (getD w (at + 1) 0)
-        → Put (copied w (at + 2) (behind - (at + 2))) (n + 2) (set (set d n (getD w at 0)) (n + 1) v) r new → Put (acceptMade w at) n d r new
-    accept-put {v} {r} {new} e h f p =
-        let q = put-two (getD w at 0) v (copied w (at + 2) (behind - (at + 2))) n d p (accept-long e h) in
-        rw (accept-made e, ← f) q
+    pub rest-within : k ≡ leads kind → flaggedAt kind w at ≡ Next behind → at + k + k + (behind - (at + k + k)) ≤ length w
+    rest-within i e = let r = sized kind e in omega (arith, r .0, r .1)
 
-  -- stores before the copy
-  module _ (n : ℕ) (d : List ℕ) where
-    pub accept-first : n + length (acceptMade w at) ≤ length d → n < length d
-    unfolding acceptMade
-    accept-first h = omega arith
+    module _ (n : ℕ) (d : List ℕ) where
+      pub flagged-room-0 : k ≡ leads kind → flaggedAt kind w at ≡ Next behind → n + length (flaggedMade kind w at) ≤ length d → n + length (copied w at k) ≤ length d
+      flagged-room-0 i e h = three-0 (copied w at k) (flags w (at + k) k) (copied w (at + k + k) (behind - (at + k + k))) n d (rw (made-in i e) at h)
 
-    -- the places of the stores, and of what is copied, are numbers of the machine
-    pub accept-places : (k : ℕ) → n + length (acceptMade w at) ≤ length d → ltb k 3 ≡ true → length d * 4 < 2 ^ 63 → Fits w64 (n + k)
-    unfolding acceptMade
-    accept-places k h i l = omega (arith, ltb-true k 3 i)
+      module _ {n₁ : ℕ} {d₁ : List ℕ} where
+        pub flagged-room-1 : k ≡ leads kind → flaggedAt kind w at ≡ Next behind → n + length (flaggedMade kind w at) ≤ length d → Put (copied w at k) n d n₁ d₁ → n₁ + length (flags w (at + k) k) ≤ length d₁
+        flagged-room-1 i e h p = three-1 (copied w at k) (flags w (at + k) k) (copied w (at + k + k) (behind - (at + k + k))) n d (rw (made-in i e) at h) p
 
-    pub accept-second : (x : ℕ) → n + length (acceptMade w at) ≤ length d → n + 1 < length (set d n x)
-    unfolding acceptMade
-    accept-second x h = omega (arith, length-set d n x)
+        module _ {n₂ : ℕ} {d₂ : List ℕ} where
+          pub flagged-room-2 : k ≡ leads kind → flaggedAt kind w at ≡ Next behind → n + length (flaggedMade kind w at) ≤ length d → Put (copied w at k) n d n₁ d₁ → Put (flags w (at + k) k) n₁ d₁ n₂ d₂
+              → n₂ + length (copied w (at + k + k) (behind - (at + k + k))) ≤ length d₂
+          flagged-room-2 i e h p q = three-2 (copied w at k) (flags w (at + k) k) (copied w (at + k + k) (behind - (at + k + k))) n d (rw (made-in i e) at h) p q
 
-pub ruleset accepting = (needs, put-size-2, inner-fits, accept-places, accept-rule, accept-flag, accept-count, accept-rest, accept-behind, accept-fits, accept-put, accept-first, accept-second)
+          pub flagged-put : {n₃ : ℕ} {d₃ : List ℕ} → k ≡ leads kind → flaggedAt kind w at ≡ Next behind → n + length (flaggedMade kind w at) ≤ length d → Put (copied w at k) n d n₁ d₁
+              → Put (flags w (at + k) k) n₁ d₁ n₂ d₂ → Put (copied w (at + k + k) (behind - (at + k + k))) n₂ d₂ n₃ d₃ → Put (flaggedMade kind w at) n d n₃ d₃
+          flagged-put i e h p q t = rw (made-in i e) (three-put (copied w at k) (flags w (at + k) k) (copied w (at + k + k) (behind - (at + k + k))) n d (rw (made-in i e) at h) p q t)
 
--- A config
+-- a place in the words is a number of the machine
+pub up-to-fits : (i n : ℕ) → i ≤ n → n * 4 < 2 ^ 63 → Fits w64 i
+up-to-fits i n h k = omega arith
 
-module _ (w : List ℕ) (at : ℕ) where
-  abbrev configRest : ℕ → List ℕ
-  configRest behind = copied w (at + 4) (behind - (at + 4))
-
-  config-made : {behind : ℕ} → configAt w at ≡ Next behind
-      → configMade w at ≡ getD w at 0 ∷ getD w (at + 1) 0 ∷ flag (getD w (at + 2) 0) ∷ flag (getD w (at + 3) 0) ∷ configRest behind
-  unfolding configMade
-  config-made {behind} e =
-      let i : behind - (at + 4) ≡ getD w (at + 5) 0 * 3 + 2 = omega (arith, config-sized w at behind e .0) in
-      rw i
-
-  pub config-state : {behind : ℕ} → configAt w at ≡ Next behind → at < length w
-  config-state {behind} e = let r = config-sized w at behind e in omega arith
-
-  pub config-rule : {behind : ℕ} → configAt w at ≡ Next behind → at + 1 < length w
-  config-rule {behind} e = let r = config-sized w at behind e in omega arith
-
-  pub config-flag : {behind : ℕ} → configAt w at ≡ Next behind → at + 2 < length w
-  config-flag {behind} e = let r = config-sized w at behind e in omega arith
-
-  pub config-other : {behind : ℕ} → configAt w at ≡ Next behind → at + 3 < length w
-  config-other {behind} e = let r = config-sized w at behind e in omega arith
-
-  pub config-context : {behind : ℕ} → configAt w at ≡ Next behind → at + 4 < length w
-  config-context {behind} e = let r = config-sized w at behind e in omega arith
-
-  pub config-rest : {behind : ℕ} → configAt w at ≡ Next behind → at + 4 + (behind - (at + 4)) ≤ length w
-  config-rest {behind} e = let r = config-sized w at behind e in omega arith
-
-  pub config-behind : {behind : ℕ} → configAt w at ≡ Next behind → at + 4 ≤ behind
-  config-behind {behind} e = let r = config-sized w at behind e in omega arith
-
-  module _ (n : ℕ) (d : List ℕ) where
-    pub config-first : n + length (configMade w at) ≤ length d → n < length d
-    unfolding configMade
-    config-first h = omega arith
-
-    -- the places of the stores, and of what is copied, are numbers of the machine
-    pub config-places : (k : ℕ) → n + length (configMade w at) ≤ length d → ltb k 5 ≡ true → length d * 4 < 2 ^ 63 → Fits w64 (n + k)
-    unfolding configMade
-    config-places k h i l = omega (arith, ltb-true k 5 i)
-
-    pub config-second : (x : ℕ) → n + length (configMade w at) ≤ length d → n + 1 < length (set d n x)
-    unfolding configMade
-    config-second x h = omega (arith, length-set d n x)
-
-    pub config-third : (x y : ℕ) → n + length (configMade w at) ≤ length d → n + 2 < length (set (set d n x) (n + 1) y)
-    unfolding configMade
-    config-third x y h = omega (arith, length-set d n x, length-set (set d n x) (n + 1) y)
-
-    pub config-fourth : (x y z : ℕ) → n + length (configMade w at) ≤ length d → n + 3 < length (set (set (set d n x) (n + 1) y) (n + 2) z)
-    unfolding configMade
-    config-fourth x y z h = omega (arith, length-set d n x, length-set (set d n x) (n + 1) y, length-set (set (set d n x) (n + 1) y) (n + 2) z)
-
-    module _ {behind : ℕ} where
-      config-long : configAt w at ≡ Next behind → n + length (configMade w at) ≤ length d → n + 4 + length (configRest behind) ≤ length d
-      config-long e h = let l = ap length (config-made e) in omega arith
-
-      pub config-fits : (x y z v : ℕ) → configAt w at ≡ Next behind → n + length (configMade w at) ≤ length d
-          → n + 4 + length (configRest behind) ≤ length (set (set (set (set d n x) (n + 1) y) (n + 2) z) (n + 3) v)
-      config-fits x y z v e h =
-          omega (arith, config-long e h, length-set d n x, length-set (set d n x) (n + 1) y, length-set (set (set d n x) (n + 1) y) (n + 2) z, length-set (set (set (set d n x) (n + 1) y) (n + 2) z) (n + 3) v)
-
-      pub config-put : {u v r : ℕ} {new : List ℕ} → configAt w at ≡ Next behind → n + length (configMade w at) ≤ length d → u ≡ flag (getD w (at + 2) 0) → v ≡ flag (getD w (at + 3) 0)
-          → Put (configRest behind) (n + 4) (set (set (set (set d n (getD w at 0)) (n + 1) (getD w (at + 1) 0)) (n + 2) u) (n + 3) v) r new → Put (configMade w at) n d r new
-      config-put {u} {v} {r} {new} e h f g p =
-          let a = getD w at 0 in
-          let b = getD w (at + 1) 0 in
-          let d₂ = set (set d n a) (n + 1) b in
-          let s₁ = length-set d n a in
-          let s₂ = length-set (set d n a) (n + 1) b in
-          let i : n + 4 ≡ n + 2 + 2 = omega arith in
-          let j : n + 3 ≡ n + 2 + 1 = omega arith in
-          let p₂ : Put (configRest behind) (n + 2 + 2) (set (set d₂ (n + 2) u) (n + 2 + 1) v) r new = rw (← i, ← j) p in
-          let q = put-two u v (configRest behind) (n + 2) d₂ p₂ (omega (arith, config-long e h)) in
-          let t = put-two a b (u ∷ v ∷ configRest behind) n d q (omega (arith, config-long e h)) in
-          rw (config-made e, ← f, ← g) t
-
-pub ruleset configuring = (needs, put-size-4, inner-fits, config-places, config-state, config-rule, config-flag, config-other, config-context, config-rest, config-behind, config-first, config-second, config-third, config-fourth, config-fits, config-put)
+pub ruleset flagged = (needs, up-to-fits, flags-behind, leads-within, flags-within, rest-within, flagged-room-0, flagged-room-1, flagged-room-2, flagged-put)
 
 -- A continuation: its contexts take k words
 

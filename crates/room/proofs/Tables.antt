@@ -7,140 +7,113 @@ use mathlib.Core.Bool.{true}
 use mir.Syntax.{w64}
 use mir.Val.{Fits}
 use borrow.Author.Needs.{needs}
-use borrow.Author.Tests.{ltb-true, lt-ltb, le-ltb}
+use borrow.Author.Tests.{ltb-true}
 use lib.Dec.{ltb}
 use lib.ListN.{length, set, length-set, length-append, length-replicate}
 use Rattle.words.specs.Records.{runAt, wideAt, acceptAt, escapeAt, continuationAt}
 use Rattle.layout.specs.declared.Sections.{Sections}
 use Rattle.layout.specs.declared.Sections.the-variants.{Found, Unfound}
-use Rattle.layout.specs.Layout.{unfound, layoutOf}
+use Rattle.layout.specs.Layout.{layoutOf}
 use Rattle.layout.proofs.Found.{found}
+use Rattle.limits.specs.Limits.{laidOut}
+use Rattle.limits.proofs.Laws.{kept}
 use Rattle.refusal.specs.declared.Refusal.{Refusal}
-use Rattle.refusal.specs.Said.{LIMIT, ROOM}
 use Rattle.written.specs.Over.{Put, zeros}
 use Rattle.written.proofs.Overs.{lay-none, lay-zeros}
-use Rattle.written.proofs.Going.{Going, going-start, going-room, going-turn, going-done, put-one, put-two, put-size, put-size-1}
-use Rattle.room.specs.Room.{copied, placed, renewed, acceptMade, continuationMade, laterMade, made, four, header, laterPlaces, places, body, numbers, laidOut, roomFor}
+use Rattle.written.proofs.Going.{put-one, put-two, put-size, put-size-1}
+use Rattle.room.specs.Room.{copied, placed, renewed, acceptMade, continuationMade, laterMade, made, four, header, laterPlaces, places, body, numbers, roomFor}
+use Rattle.room.proofs.Parts.{two, three-0, three-1, three-2, three-put, four-2, four-3, four-put, five-3, five-4, five-put}
 use Rattle.room.proofs.Sizes.{ordered, numbers-length}
 
--- One part behind another
-
--- the last part
-last : (xs : List ℕ) (n : ℕ) (d : List ℕ) (ys : List ℕ) (m : ℕ) (out : List ℕ) {r : ℕ} {new : List ℕ} → Put ys m out r new → Going xs n d ys m out → Put xs n d r new
-last xs n d ys m out p g = going-done xs n d (going-turn xs n d [] m out ys p (rw (← append-nil ys) at g))
-
--- two parts
-two : (ys zs : List ℕ) (n : ℕ) (d : List ℕ) {r q : ℕ} {new final : List ℕ} → Put ys n d r new → n + length (ys ++ zs) ≤ length d → Put zs r new q final → Put (ys ++ zs) n d q final
-two ys zs n d {r} {new = new} p h t = last (ys ++ zs) n d zs r new t (going-turn (ys ++ zs) n d zs n d ys p (going-start (ys ++ zs) n d h))
-
-last-room : (xs : List ℕ) (n : ℕ) (d : List ℕ) (ys : List ℕ) (m : ℕ) (out : List ℕ) → Going xs n d ys m out → m + length ys ≤ length out
-last-room xs n d ys m out g = omega (arith, g .next, g .size, g .room)
-
--- Three parts
-
-module _ (A B C : List ℕ) (n : ℕ) (d : List ℕ) where
-  abbrev three : List ℕ
-  three = A ++ (B ++ C)
-
-  three-0 : n + length three ≤ length d → n + length A ≤ length d
-  three-0 h = going-room three n d (B ++ C) n d A (going-start three n d h)
-
-  module _ {n₁ : ℕ} {d₁ : List ℕ} where
-    three-1 : n + length three ≤ length d → Put A n d n₁ d₁ → n₁ + length B ≤ length d₁
-    three-1 h p = going-room three n d C n₁ d₁ B (going-turn three n d (B ++ C) n d A p (going-start three n d h))
-
-    module _ {n₂ : ℕ} {d₂ : List ℕ} where
-      going-2 : n + length three ≤ length d → Put A n d n₁ d₁ → Put B n₁ d₁ n₂ d₂ → Going three n d C n₂ d₂
-      going-2 h p q = going-turn three n d C n₁ d₁ B q (going-turn three n d (B ++ C) n d A p (going-start three n d h))
-
-      three-2 : n + length three ≤ length d → Put A n d n₁ d₁ → Put B n₁ d₁ n₂ d₂ → n₂ + length C ≤ length d₂
-      three-2 h p q = last-room three n d C n₂ d₂ (going-2 h p q)
-
-      three-put : {n₃ : ℕ} {d₃ : List ℕ} → n + length three ≤ length d → Put A n d n₁ d₁ → Put B n₁ d₁ n₂ d₂ → Put C n₂ d₂ n₃ d₃ → Put three n d n₃ d₃
-      three-put h p q t = last three n d C n₂ d₂ t (going-2 h p q)
-
--- The words
+-- The words: before the accepts, the accepts, the escape rows, the continuations
 
 module _ (w : List ℕ) (x e c n : ℕ) (d : List ℕ) where
+  abbrev before-accepts : List ℕ
+  before-accepts = copied w 0 x
+
+  abbrev accepts : List ℕ
+  accepts = renewed acceptAt acceptMade w x
+
+  abbrev escapes : List ℕ
+  escapes = copied w e (c - e)
+
+  abbrev continuations : List ℕ
+  continuations = renewed continuationAt continuationMade w c
+
   abbrev Fits-words : Type 0
   Fits-words = n + length (made w x e c) ≤ length d
 
-  pub words-room-0 : Fits-words → n + length (copied w 0 x) ≤ length d
-  unfolding made
-  words-room-0 h = three-0 (copied w 0 x) (renewed acceptAt acceptMade w x) (laterMade w e c) n d h
+  pub words-room-0 : Fits-words → n + length before-accepts ≤ length d
+  unfolding made laterMade
+  words-room-0 h = three-0 before-accepts accepts (escapes ++ continuations) n d h
 
-  pub words-room-1 : {n₁ : ℕ} {d₁ : List ℕ} → Fits-words → Put (copied w 0 x) n d n₁ d₁ → n₁ + length (renewed acceptAt acceptMade w x) ≤ length d₁
-  unfolding made
-  words-room-1 h p = three-1 (copied w 0 x) (renewed acceptAt acceptMade w x) (laterMade w e c) n d h p
+  module _ {n₁ : ℕ} {d₁ : List ℕ} where
+    pub words-room-1 : Fits-words → Put before-accepts n d n₁ d₁ → n₁ + length accepts ≤ length d₁
+    unfolding made laterMade
+    words-room-1 h p = three-1 before-accepts accepts (escapes ++ continuations) n d h p
 
-  pub words-room-2 : {n₁ n₂ : ℕ} {d₁ d₂ : List ℕ} → Fits-words → Put (copied w 0 x) n d n₁ d₁ → Put (renewed acceptAt acceptMade w x) n₁ d₁ n₂ d₂ → n₂ + length (laterMade w e c) ≤ length d₂
-  unfolding made
-  words-room-2 h p q = three-2 (copied w 0 x) (renewed acceptAt acceptMade w x) (laterMade w e c) n d h p q
+    module _ {n₂ : ℕ} {d₂ : List ℕ} where
+      pub words-room-2 : Fits-words → Put before-accepts n d n₁ d₁ → Put accepts n₁ d₁ n₂ d₂ → n₂ + length escapes ≤ length d₂
+      unfolding made laterMade
+      words-room-2 h p q = four-2 before-accepts accepts escapes continuations n d h p q
 
-  pub words-put : {n₁ n₂ n₃ : ℕ} {d₁ d₂ d₃ : List ℕ} → Fits-words → Put (copied w 0 x) n d n₁ d₁ → Put (renewed acceptAt acceptMade w x) n₁ d₁ n₂ d₂ → Put (laterMade w e c) n₂ d₂ n₃ d₃ → Put (made w x e c) n d n₃ d₃
-  unfolding made
-  words-put h p q t = three-put (copied w 0 x) (renewed acceptAt acceptMade w x) (laterMade w e c) n d h p q t
+      module _ {n₃ : ℕ} {d₃ : List ℕ} where
+        pub words-room-3 : Fits-words → Put before-accepts n d n₁ d₁ → Put accepts n₁ d₁ n₂ d₂ → Put escapes n₂ d₂ n₃ d₃ → n₃ + length continuations ≤ length d₃
+        unfolding made laterMade
+        words-room-3 h p q t = four-3 before-accepts accepts escapes continuations n d h p q t
 
-module _ (w : List ℕ) (e c n : ℕ) (d : List ℕ) where
-  abbrev between : List ℕ
-  between = copied w e (c - e)
+        pub words-put : {n₄ : ℕ} {d₄ : List ℕ} → Fits-words → Put before-accepts n d n₁ d₁ → Put accepts n₁ d₁ n₂ d₂ → Put escapes n₂ d₂ n₃ d₃ → Put continuations n₃ d₃ n₄ d₄ → Put (made w x e c) n d n₄ d₄
+        unfolding made laterMade
+        words-put h p q t u = four-put before-accepts accepts escapes continuations n d h p q t u
 
-  abbrev Fits-rest : Type 0
-  Fits-rest = n + length (laterMade w e c) ≤ length d
-
-  pub rest-room-0 : Fits-rest → n + length between ≤ length d
-  unfolding laterMade
-  rest-room-0 h = omega (arith, length-append between (renewed continuationAt continuationMade w c))
-
-  pub rest-room-1 : {n₁ : ℕ} {d₁ : List ℕ} → Fits-rest → Put between n d n₁ d₁ → n₁ + length (renewed continuationAt continuationMade w c) ≤ length d₁
-  unfolding laterMade
-  rest-room-1 h p = omega (arith, p .next, put-size p, length-append between (renewed continuationAt continuationMade w c))
-
-  pub rest-put : {n₁ n₂ : ℕ} {d₁ d₂ : List ℕ} → Fits-rest → Put between n d n₁ d₁ → Put (renewed continuationAt continuationMade w c) n₁ d₁ n₂ d₂ → Put (laterMade w e c) n d n₂ d₂
-  unfolding laterMade
-  rest-put h p q = two between (renewed continuationAt continuationMade w c) n d p h q
-
--- The places
+-- The places: of the runs, the wide rows, the accepts, the escape rows, the continuations
 
 module _ (w : List ℕ) (r v x e c n : ℕ) (d : List ℕ) where
-  abbrev Fits-all : Type 0
-  Fits-all = n + length (places w r v x e c) ≤ length d
+  abbrev A : List ℕ
+  A = placed runAt w r
 
-  pub places-room-0 : Fits-all → n + length (placed runAt w r) ≤ length d
-  unfolding places
-  places-room-0 h = three-0 (placed runAt w r) (placed wideAt w v) (laterPlaces w x e c) n d h
+  abbrev B : List ℕ
+  B = placed wideAt w v
 
-  pub places-room-1 : {n₁ : ℕ} {d₁ : List ℕ} → Fits-all → Put (placed runAt w r) n d n₁ d₁ → n₁ + length (placed wideAt w v) ≤ length d₁
-  unfolding places
-  places-room-1 h p = three-1 (placed runAt w r) (placed wideAt w v) (laterPlaces w x e c) n d h p
+  abbrev C : List ℕ
+  C = placed acceptAt w x
 
-  pub places-room-2 : {n₁ n₂ : ℕ} {d₁ d₂ : List ℕ} → Fits-all → Put (placed runAt w r) n d n₁ d₁ → Put (placed wideAt w v) n₁ d₁ n₂ d₂ → n₂ + length (laterPlaces w x e c) ≤ length d₂
-  unfolding places
-  places-room-2 h p q = three-2 (placed runAt w r) (placed wideAt w v) (laterPlaces w x e c) n d h p q
+  abbrev D : List ℕ
+  D = placed escapeAt w e
 
-  pub places-put : {n₁ n₂ n₃ : ℕ} {d₁ d₂ d₃ : List ℕ} → Fits-all → Put (placed runAt w r) n d n₁ d₁ → Put (placed wideAt w v) n₁ d₁ n₂ d₂ → Put (laterPlaces w x e c) n₂ d₂ n₃ d₃ → Put (places w r v x e c) n d n₃ d₃
-  unfolding places
-  places-put h p q t = three-put (placed runAt w r) (placed wideAt w v) (laterPlaces w x e c) n d h p q t
+  abbrev E : List ℕ
+  E = placed continuationAt w c
 
-module _ (w : List ℕ) (x e c n : ℕ) (d : List ℕ) where
-  abbrev Fits-later : Type 0
-  Fits-later = n + length (laterPlaces w x e c) ≤ length d
+  abbrev Fits-places : Type 0
+  Fits-places = n + length (places w r v x e c) ≤ length d
 
-  pub later-room-0 : Fits-later → n + length (placed acceptAt w x) ≤ length d
-  unfolding laterPlaces
-  later-room-0 h = three-0 (placed acceptAt w x) (placed escapeAt w e) (placed continuationAt w c) n d h
+  pub places-room-0 : Fits-places → n + length A ≤ length d
+  unfolding places laterPlaces
+  places-room-0 h = three-0 A B (C ++ (D ++ E)) n d h
 
-  pub later-room-1 : {n₁ : ℕ} {d₁ : List ℕ} → Fits-later → Put (placed acceptAt w x) n d n₁ d₁ → n₁ + length (placed escapeAt w e) ≤ length d₁
-  unfolding laterPlaces
-  later-room-1 h p = three-1 (placed acceptAt w x) (placed escapeAt w e) (placed continuationAt w c) n d h p
+  module _ {n₁ : ℕ} {d₁ : List ℕ} where
+    pub places-room-1 : Fits-places → Put A n d n₁ d₁ → n₁ + length B ≤ length d₁
+    unfolding places laterPlaces
+    places-room-1 h p = three-1 A B (C ++ (D ++ E)) n d h p
 
-  pub later-room-2 : {n₁ n₂ : ℕ} {d₁ d₂ : List ℕ} → Fits-later → Put (placed acceptAt w x) n d n₁ d₁ → Put (placed escapeAt w e) n₁ d₁ n₂ d₂ → n₂ + length (placed continuationAt w c) ≤ length d₂
-  unfolding laterPlaces
-  later-room-2 h p q = three-2 (placed acceptAt w x) (placed escapeAt w e) (placed continuationAt w c) n d h p q
+    module _ {n₂ : ℕ} {d₂ : List ℕ} where
+      pub places-room-2 : Fits-places → Put A n d n₁ d₁ → Put B n₁ d₁ n₂ d₂ → n₂ + length C ≤ length d₂
+      unfolding places laterPlaces
+      places-room-2 h p q = four-2 A B C (D ++ E) n d h p q
 
-  pub later-put : {n₁ n₂ n₃ : ℕ} {d₁ d₂ d₃ : List ℕ} → Fits-later → Put (placed acceptAt w x) n d n₁ d₁ → Put (placed escapeAt w e) n₁ d₁ n₂ d₂ → Put (placed continuationAt w c) n₂ d₂ n₃ d₃ → Put (laterPlaces w x e c) n d n₃ d₃
-  unfolding laterPlaces
-  later-put h p q t = three-put (placed acceptAt w x) (placed escapeAt w e) (placed continuationAt w c) n d h p q t
+      module _ {n₃ : ℕ} {d₃ : List ℕ} where
+        pub places-room-3 : Fits-places → Put A n d n₁ d₁ → Put B n₁ d₁ n₂ d₂ → Put C n₂ d₂ n₃ d₃ → n₃ + length D ≤ length d₃
+        unfolding places laterPlaces
+        places-room-3 h p q t = five-3 A B C D E n d h p q t
+
+        module _ {n₄ : ℕ} {d₄ : List ℕ} where
+          pub places-room-4 : Fits-places → Put A n d n₁ d₁ → Put B n₁ d₁ n₂ d₂ → Put C n₂ d₂ n₃ d₃ → Put D n₃ d₃ n₄ d₄ → n₄ + length E ≤ length d₄
+          unfolding places laterPlaces
+          places-room-4 h p q t u = five-4 A B C D E n d h p q t u
+
+          pub places-put : {n₅ : ℕ} {d₅ : List ℕ} → Fits-places → Put A n d n₁ d₁ → Put B n₁ d₁ n₂ d₂ → Put C n₂ d₂ n₃ d₃ → Put D n₃ d₃ n₄ d₄ → Put E n₄ d₄ n₅ d₅ → Put (places w r v x e c) n d n₅ d₅
+          unfolding places laterPlaces
+          places-put h p q t u z = five-put A B C D E n d h p q t u z
 
 -- a count stands before another
 pub before-1 : {a b : ℕ} (n : ℕ) → a ≤ b → b + 1 ≤ n → a < n
@@ -158,23 +131,23 @@ before-4 n h k l m o = omega arith
 -- The header
 
 module _ (n : ℕ) (d : List ℕ) where
-  pub four-1 : n + 4 ≤ length d → n < length d
-  four-1 h = omega arith
+  pub quad-1 : n + 4 ≤ length d → n < length d
+  quad-1 h = omega arith
 
-  pub four-2 : (x : ℕ) → n + 4 ≤ length d → n + 1 < length (set d n x)
-  four-2 x h = omega (arith, length-set d n x)
+  pub quad-2 : (x : ℕ) → n + 4 ≤ length d → n + 1 < length (set d n x)
+  quad-2 x h = omega (arith, length-set d n x)
 
-  pub four-3 : (x y : ℕ) → n + 4 ≤ length d → n + 2 < length (set (set d n x) (n + 1) y)
-  four-3 x y h = omega (arith, length-set d n x, length-set (set d n x) (n + 1) y)
+  pub quad-3 : (x y : ℕ) → n + 4 ≤ length d → n + 2 < length (set (set d n x) (n + 1) y)
+  quad-3 x y h = omega (arith, length-set d n x, length-set (set d n x) (n + 1) y)
 
-  pub four-4 : (x y z : ℕ) → n + 4 ≤ length d → n + 3 < length (set (set (set d n x) (n + 1) y) (n + 2) z)
-  four-4 x y z h = omega (arith, length-set d n x, length-set (set d n x) (n + 1) y, length-set (set (set d n x) (n + 1) y) (n + 2) z)
+  pub quad-4 : (x y z : ℕ) → n + 4 ≤ length d → n + 3 < length (set (set (set d n x) (n + 1) y) (n + 2) z)
+  quad-4 x y z h = omega (arith, length-set d n x, length-set (set d n x) (n + 1) y, length-set (set (set d n x) (n + 1) y) (n + 2) z)
 
-  pub four-places : (k : ℕ) → n + 4 ≤ length d → ltb k 5 ≡ true → length d * 4 < 2 ^ 63 → Fits w64 (n + k)
-  four-places k h i l = omega (arith, ltb-true k 5 i)
+  pub quad-places : (k : ℕ) → n + 4 ≤ length d → ltb k 5 ≡ true → length d * 4 < 2 ^ 63 → Fits w64 (n + k)
+  quad-places k h i l = omega (arith, ltb-true k 5 i)
 
-  pub four-put : (p q r s : ℕ) → n + 4 ≤ length d → Put (four p q r s) n d (n + 4) (set (set (set (set d n (p + 9)) (n + 1) (q + 9)) (n + 2) (r + 9)) (n + 3) (s + 9))
-  four-put p q r s h =
+  pub quad-put : (p q r s : ℕ) → n + 4 ≤ length d → Put (four p q r s) n d (n + 4) (set (set (set (set d n (p + 9)) (n + 1) (q + 9)) (n + 2) (r + 9)) (n + 3) (s + 9))
+  quad-put p q r s h =
       let d₂ = set (set d n (p + 9)) (n + 1) (q + 9) in
       let d₄ = set (set d₂ (n + 2) (r + 9)) (n + 3) (s + 9) in
       let l : length d₂ ≡ length d = length-set (set d n (p + 9)) (n + 1) (q + 9) ∙ length-set d n (p + 9) in
@@ -182,10 +155,10 @@ module _ (n : ℕ) (d : List ℕ) where
       let i : n + 4 ≡ n + 2 + 2 = omega arith in
       let j : n + 3 ≡ n + 2 + 1 = omega arith in
       let step : Put [] (n + 2 + 2) (set (set d₂ (n + 2) (r + 9)) (n + 2 + 1) (s + 9)) (n + 4) d₄ = rw (← i, ← j) none in
-      let two = put-two (r + 9) (s + 9) [] (n + 2) d₂ step (omega arith) in
-      put-two (p + 9) (q + 9) ((r + 9) ∷ (s + 9) ∷ []) n d two (omega arith)
+      let back = put-two (r + 9) (s + 9) [] (n + 2) d₂ step (omega arith) in
+      put-two (p + 9) (q + 9) ((r + 9) ∷ (s + 9) ∷ []) n d back (omega arith)
 
-pub ruleset fours = (needs, four-1, four-2, four-3, four-4, four-places, four-put)
+pub ruleset fours = (needs, quad-1, quad-2, quad-3, quad-4, quad-places, quad-put)
 
 -- the count is stored, and two times four places written behind it
 module _ (w : List ℕ) (m s r a v x e c : ℕ) (d : List ℕ) where
@@ -248,35 +221,26 @@ module _ (w : List ℕ) {m s r a v x e c : ℕ} where
     pub wide-order : v ≤ x
     wide-order = omega (arith, ordered (found w h) .accepts)
 
--- the words, and the places behind them
-module _ (w : List ℕ) (r v x e c n : ℕ) (d : List ℕ) where
-  pub body-room-0 : n + length (body w r v x e c) ≤ length d → n + length (made w x e c) ≤ length d
-  unfolding body
-  body-room-0 h = omega (arith, length-append (made w x e c) (places w r v x e c))
-
-  pub body-room-1 : {n₁ : ℕ} {d₁ : List ℕ} → n + length (body w r v x e c) ≤ length d → Put (made w x e c) n d n₁ d₁ → n₁ + length (places w r v x e c) ≤ length d₁
-  unfolding body
-  body-room-1 h p = omega (arith, p .next, put-size p, length-append (made w x e c) (places w r v x e c))
-
-  pub body-put : {n₁ n₂ : ℕ} {d₁ d₂ : List ℕ} → n + length (body w r v x e c) ≤ length d → Put (made w x e c) n d n₁ d₁ → Put (places w r v x e c) n₁ d₁ n₂ d₂ → Put (body w r v x e c) n d n₂ d₂
-  unfolding body
-  body-put h p q = two (made w x e c) (places w r v x e c) n d p h q
-
--- The whole table
+-- The whole table: the header, the words, the places
 
 module _ (w : List ℕ) {m s r a v x e c : ℕ} (d : List ℕ) where
   table-fits : layoutOf w ≡ Found m s r a v x e c → length w ≤ 8192 → 16384 ≤ length d → 0 + length (numbers w m s r a v x e c) ≤ length d
   table-fits h k l = omega (arith, numbers-length (found w h))
 
-  pub table-room : {n₁ : ℕ} {d₁ : List ℕ} → Put (header w m s r a v x e c) 0 d n₁ d₁ → layoutOf w ≡ Found m s r a v x e c → length w ≤ 8192 → 16384 ≤ length d
-      → n₁ + length (body w r v x e c) ≤ length d₁
-  unfolding numbers
-  table-room p h k l = omega (arith, table-fits h k l, p .next, put-size p, length-append (header w m s r a v x e c) (body w r v x e c))
+  module _ {n₁ : ℕ} {d₁ : List ℕ} where
+    pub table-room-1 : layoutOf w ≡ Found m s r a v x e c → length w ≤ 8192 → 16384 ≤ length d → Put (header w m s r a v x e c) 0 d n₁ d₁ → n₁ + length (made w x e c) ≤ length d₁
+    unfolding numbers body
+    table-room-1 h k l p = three-1 (header w m s r a v x e c) (made w x e c) (places w r v x e c) 0 d (table-fits h k l) p
 
-  pub table-put : {n₁ n₂ : ℕ} {d₁ d₂ : List ℕ} → Put (header w m s r a v x e c) 0 d n₁ d₁ → Put (body w r v x e c) n₁ d₁ n₂ d₂ → layoutOf w ≡ Found m s r a v x e c → length w ≤ 8192
-      → 16384 ≤ length d → Put (numbers w m s r a v x e c) 0 d n₂ d₂
-  unfolding numbers
-  table-put p q h k l = two (header w m s r a v x e c) (body w r v x e c) 0 d p (table-fits h k l) q
+    module _ {n₂ : ℕ} {d₂ : List ℕ} where
+      pub table-room-2 : layoutOf w ≡ Found m s r a v x e c → length w ≤ 8192 → 16384 ≤ length d → Put (header w m s r a v x e c) 0 d n₁ d₁ → Put (made w x e c) n₁ d₁ n₂ d₂ → n₂ + length (places w r v x e c) ≤ length d₂
+      unfolding numbers body
+      table-room-2 h k l p q = three-2 (header w m s r a v x e c) (made w x e c) (places w r v x e c) 0 d (table-fits h k l) p q
+
+      pub table-put : {n₃ : ℕ} {d₃ : List ℕ} → layoutOf w ≡ Found m s r a v x e c → length w ≤ 8192 → 16384 ≤ length d → Put (header w m s r a v x e c) 0 d n₁ d₁ → Put (made w x e c) n₁ d₁ n₂ d₂
+          → Put (places w r v x e c) n₂ d₂ n₃ d₃ → Put (numbers w m s r a v x e c) 0 d n₃ d₃
+      unfolding numbers body
+      table-put h k l p q t = three-put (header w m s r a v x e c) (made w x e c) (places w r v x e c) 0 d (table-fits h k l) p q t
 
 pub ruleset within = (needs, modes-within, states-within, runs-within, ascii-within, wide-within, accepts-within, escapes-within, continuations-within)
 
@@ -284,38 +248,39 @@ pub ruleset ordering = (needs, runs-order, wide-order, accepts-order, escapes-or
 
 -- Filling
 
-module _ (w : List ℕ) (n : ℕ) {d : List ℕ} where
-  pub cleared : d ≡ zeros n → length d ≡ n
-  cleared e = ap length e ∙ length-replicate n 0
+module _ (w : List ℕ) (n : ℕ) {d : List ℕ} (z : d ≡ zeros n) where
+  cleared : length d ≡ n
+  cleared = ap length z ∙ length-replicate n 0
 
-  pub no-room : d ≡ zeros n → length d < 16384 → unfound ROOM 0 ≡ laidOut w n
-  unfolding laidOut
-  no-room e h = let i : n < 16384 = omega (arith, cleared e) in rw (lt-ltb n 16384 i)
+  -- what was found for a room of as many numbers
+  pub same-laid : {got : Sections} → got ≡ laidOut w (length d) → got ≡ laidOut w n
+  same-laid g = rw (← cleared) g
 
-  pub past-limit : d ≡ zeros n → 16384 ≤ length d → 8192 < length w → unfound LIMIT 8192 ≡ laidOut w n
-  unfolding laidOut
-  past-limit e h k = let i : 16384 ≤ n = omega (arith, cleared e) in rw (le-ltb n 16384 i, lt-ltb 8192 (length w) k)
-
-  pub is-laid : {got : Sections} → d ≡ zeros n → 16384 ≤ length d → length w ≤ 8192 → got ≡ layoutOf w → got ≡ laidOut w n
-  unfolding laidOut
-  is-laid e h k g = let i : 16384 ≤ n = omega (arith, cleared e) in g ∙ (rw (le-ltb n 16384 i, le-ltb 8192 (length w) k))
-
-  pub none-left : (r : Refusal) → d ≡ zeros n → d ≡ roomFor w n (Unfound r)
+  pub none-left : (r : Refusal) → d ≡ roomFor w n (Unfound r)
   unfolding roomFor
-  none-left r e = e
+  none-left r = z
 
-  pub all-there : {m s r a v x e c k : ℕ} {new : List ℕ} {got : Sections} → d ≡ zeros n → 16384 ≤ length d → length w ≤ 8192 → got ≡ layoutOf w → got ≡ Found m s r a v x e c
+  pub all-there : {m s r a v x e c k : ℕ} {new : List ℕ} {got : Sections} → got ≡ laidOut w (length d) → got ≡ Found m s r a v x e c
       → Put (numbers w m s r a v x e c) 0 d k new → new ≡ roomFor w n (Found m s r a v x e c)
   unfolding roomFor
-  all-there {m} {s} {r} {a} {v} {x} {e} {c} z h k g i p =
-      let l : length (numbers w m s r a v x e c) ≤ n = omega (arith, numbers-length (found w (sym g ∙ i)), cleared z) in
+  all-there {m} {s} {r} {a} {v} {x} {e} {c} g i p =
+      let o = kept w (length d) (sym g ∙ i) in
+      let l : length (numbers w m s r a v x e c) ≤ n = omega (arith, numbers-length (found w (o .laid)), o .limit, o .room, cleared) in
       p .is ∙ (rw (z, lay-zeros n (numbers w m s r a v x e c) l))
 
-pub same-found : (w : List ℕ) {x got : Sections} → got ≡ layoutOf w → got ≡ x → layoutOf w ≡ x
-same-found w g i = sym g ∙ i
+-- the sections that were found, within the limits
+module _ (w d : List ℕ) {m s r a v x e c : ℕ} {got : Sections} (g : got ≡ laidOut w (length d)) (i : got ≡ Found m s r a v x e c) where
+  pub there : layoutOf w ≡ Found m s r a v x e c
+  there = kept w (length d) (sym g ∙ i) .laid
+
+  pub within-limit : length w ≤ 8192
+  within-limit = kept w (length d) (sym g ∙ i) .limit
+
+  pub within-room : 16384 ≤ length d
+  within-room = kept w (length d) (sym g ∙ i) .room
 
 pub was-found : {x y got : Sections} → got ≡ x → got ≡ y → y ≡ x
 was-found g i = sym i ∙ g
 
 -- what filling is left with
-pub ruleset filling = (needs, no-room, past-limit, is-laid, none-left, all-there, same-found, was-found)
+pub ruleset filling = (needs, same-laid, none-left, all-there, there, within-limit, within-room, was-found)

@@ -13,22 +13,24 @@ use lib.Seq.{drop-cons}
 use Rattle.refusal.specs.declared.Refusal.{Refusal}
 use Rattle.words.specs.declared.Place.{Place}
 use Rattle.words.specs.declared.Place.the-variants.{Next, Refused}
-use Rattle.words.specs.Records.{acceptAt, configAt, continuationAt}
+use Rattle.words.specs.Records.{continuationAt}
 use Rattle.records.specs.declared.Kind.{Kind}
 use Rattle.records.specs.Kinds.{recordAt}
 use Rattle.records.proofs.Laws.{record-in}
 use Rattle.written.specs.Over.{Put}
-use Rattle.written.proofs.Going.{Going, going-start, going-done, going-room, going-turn, going-place, going-put, put-one, put-size-1}
-use Rattle.room.specs.Room.{starts, startsFrom, each, copied, renewed, acceptMade, configMade, continuationMade, shifted, placed}
+use Rattle.written.proofs.Going.{Going, going-start, going-done, going-room, going-turn, going-place, going-put, put-one}
+use Rattle.room.specs.Room.{starts, startsFrom, each, copied, flag, renewed, continuationMade, shifted, placed}
+use Rattle.room.specs.declared.Flagged.{Flagged}
+use Rattle.room.specs.Flagged.{flags, flaggedAt, flaggedMade}
 
 -- Words that are copied
 
-copied-open : (w : List ℕ) (here left : ℕ) → 0 < left → here + left ≤ length w → copied w here left ≡ getD w here 0 ∷ copied w (here + 1) (left - 1)
+pub copied-open : (w : List ℕ) (here left : ℕ) → 0 < left → here + left ≤ length w → copied w here left ≡ getD w here 0 ∷ copied w (here + 1) (left - 1)
 unfolding copied
 copied-open w here zero h k = absurd (not-suc-le-zero h)
 copied-open w here (suc n) h k = let i : here < length w = omega arith in rw (drop-cons w here 0 i, sub-one, add-one)
 
-copied-done : (w : List ℕ) (here left : ℕ) → left ≤ 0 → copied w here left ≡ []
+pub copied-done : (w : List ℕ) (here left : ℕ) → left ≤ 0 → copied w here left ≡ []
 unfolding copied
 copied-done w here zero h = refl
 copied-done w here (suc n) h = absurd (not-suc-le-zero h)
@@ -43,8 +45,30 @@ module _ (w : List ℕ) (here left : ℕ) {xs : List ℕ} {n : ℕ} {old : List 
   pub copy-done : left ≤ 0 → Going xs n old (copied w here left) m out → Put xs n old m out
   copy-done h g = going-done xs n old (rw (copied-done w here left h) at g)
 
--- what the loop that copies is left with
+-- Words that are made flags
+
+pub flags-open : (w : List ℕ) (here left : ℕ) → 0 < left → here + left ≤ length w → flags w here left ≡ flag (getD w here 0) ∷ flags w (here + 1) (left - 1)
+unfolding flags each
+flags-open w here left h k = rw (copied-open w here left h k)
+
+pub flags-done : (w : List ℕ) (here left : ℕ) → left ≤ 0 → flags w here left ≡ []
+unfolding flags each
+flags-done w here left h = rw (copied-done w here left h)
+
+module _ (w : List ℕ) (here left : ℕ) {xs : List ℕ} {n : ℕ} {old : List ℕ} {m : ℕ} {out : List ℕ} where
+  pub flag-place : 0 < left → here + left ≤ length w → Going xs n old (flags w here left) m out → m < length out
+  flag-place h k g = going-place xs n old (flags w (here + 1) (left - 1)) m out (flag (getD w here 0)) (rw (flags-open w here left h k) at g)
+
+  pub flag-turn : {x : ℕ} → 0 < left → here + left ≤ length w → x ≡ flag (getD w here 0) → Going xs n old (flags w here left) m out → Going xs n old (flags w (here + 1) (left - 1)) (m + 1) (set out m x)
+  flag-turn h k e g = rw e (going-put xs n old (flags w (here + 1) (left - 1)) m out (flag (getD w here 0)) (rw (flags-open w here left h k) at g))
+
+  pub flag-done : left ≤ 0 → Going xs n old (flags w here left) m out → Put xs n old m out
+  flag-done h g = going-done xs n old (rw (flags-done w here left h) at g)
+
+-- what the loops that copy, and make flags, are left with
 pub ruleset copying = (needs, going-start, copy-place, copy-turn, copy-done)
+
+pub ruleset flags-put = (needs, going-start, flag-place, flag-turn, flag-done)
 
 -- Records: f writes for the record that g reads
 
@@ -84,11 +108,8 @@ record-limit k w here {p} e i h = omega (arith, record-in k w here p (sym e ∙ 
 
 -- the room for each kind of record, and for a place
 module _ (w : List ℕ) (left here : ℕ) {xs : List ℕ} {n : ℕ} {old : List ℕ} {m : ℕ} {out : List ℕ} {p : ℕ} {got : Place} where
-  pub accept-room : Going xs n old (each (acceptMade w) (starts (acceptAt w) left here)) m out → 0 < left → got ≡ acceptAt w here → got ≡ Next p → m + length (acceptMade w here) ≤ length out
-  accept-room k h e i = record-room (acceptMade w) (acceptAt w) left here k h e i
-
-  pub config-room : Going xs n old (each (configMade w) (starts (configAt w) left here)) m out → 0 < left → got ≡ configAt w here → got ≡ Next p → m + length (configMade w here) ≤ length out
-  config-room k h e i = record-room (configMade w) (configAt w) left here k h e i
+  pub flagged-room : (k : Flagged) → Going xs n old (each (flaggedMade k w) (starts (flaggedAt k w) left here)) m out → 0 < left → got ≡ flaggedAt k w here → got ≡ Next p → m + length (flaggedMade k w here) ≤ length out
+  flagged-room k g h e i = record-room (flaggedMade k w) (flaggedAt k w) left here g h e i
 
   pub continuation-room : Going xs n old (each (continuationMade w) (starts (continuationAt w) left here)) m out → 0 < left → got ≡ continuationAt w here → got ≡ Next p → m + length (continuationMade w here) ≤ length out
   continuation-room k h e i = record-room (continuationMade w) (continuationAt w) left here k h e i
@@ -129,19 +150,17 @@ module _ (read : List ℕ → ℕ → Place) (w : List ℕ) (at n : ℕ) (d : Li
 
 -- of each kind
 module _ (w : List ℕ) (at n : ℕ) (d : List ℕ) (x : ℕ) where
-  pub accepts-fit : n + length (renewed acceptAt acceptMade w at) ≤ length d → n + 1 + length (each (acceptMade w) (starts (acceptAt w) (getD w at 0) (at + 1))) ≤ length (set d n x)
-  accepts-fit = section-fits acceptAt w at n d acceptMade x
-
-  pub configs-fit : n + length (renewed configAt configMade w at) ≤ length d → n + 1 + length (each (configMade w) (starts (configAt w) (getD w at 0) (at + 1))) ≤ length (set d n x)
-  configs-fit = section-fits configAt w at n d configMade x
+  pub flagged-fit : (k : Flagged) → n + length (renewed (flaggedAt k) (flaggedMade k) w at) ≤ length d → n + 1 + length (each (flaggedMade k w) (starts (flaggedAt k w) (getD w at 0) (at + 1))) ≤ length (set d n x)
+  flagged-fit k = section-fits (flaggedAt k) w at n d (flaggedMade k) x
 
   pub continuations-fit : n + length (renewed continuationAt continuationMade w at) ≤ length d → n + 1 + length (each (continuationMade w) (starts (continuationAt w) (getD w at 0) (at + 1))) ≤ length (set d n x)
   continuations-fit = section-fits continuationAt w at n d continuationMade x
 
--- what a section's writer is left with
-pub ruleset renewing = (needs, put-size-1, section-first, section-next, accepts-fit, configs-fit, continuations-fit, section-put)
+-- the count and the records keep the length
+pub section-size : (i x : ℕ) (d : List ℕ) {xs : List ℕ} {n : ℕ} {rest : List ℕ} {m : ℕ} {out : List ℕ} → Going xs n (set d i x) rest m out → length out ≡ length d
+section-size i x d g = g .size ∙ length-set d i x
 
--- what a loop over records is left with
-pub ruleset recording = (needs, going-start, accept-room, config-room, continuation-room, record-turn, record-stop, record-done, was)
+-- what a loop over the records of a section is left with
+pub ruleset recording = (needs, section-size, going-start, section-first, section-next, flagged-fit, continuations-fit, section-put, flagged-room, continuation-room, record-turn, record-stop, record-done, was)
 
 pub ruleset placing = (needs, places-start, place-room, record-turn, record-stop, record-done, was, record-limit)

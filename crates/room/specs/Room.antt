@@ -97,11 +97,7 @@ body w r v x e c = made w x e c ++ places w r v x e c
 unfoldable pub numbers : List ℕ → ℕ → ℕ → ℕ → ℕ → ℕ → ℕ → ℕ → ℕ → List ℕ
 numbers w m s r a v x e c = header w m s r a v x e c ++ body w r v x e c
 
--- What filling answers, and leaves in a room of n numbers
-
--- "Decoding: ROOM (table room under 16,384 numbers), LIMIT, then words in order, LEFT"
-unfoldable pub laidOut : List ℕ → ℕ → Sections
-laidOut w n = pick (ltb n 16384) (unfound ROOM 0) (pick (ltb 8192 (length w)) (unfound LIMIT 8192) (layoutOf w))
+-- What filling leaves in a room of n numbers, by what was found
 
 -- "Refused: all outputs zero. Accepted: outputs past the answer's length zero."
 unfoldable pub roomFor : List ℕ → ℕ → Sections → List ℕ

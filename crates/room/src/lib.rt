@@ -2,17 +2,19 @@
 // 1, and where each record of variable length starts (docs/ARCHITECTURE.md, "The room").
 ghost use mathlib.Core.Path.{_≡_};
 ghost use lib.ListN.{length};
-ghost use Rattle.room.specs.Room.{laidOut, roomFor};
+ghost use Rattle.limits.specs.Limits.{laidOut};
+ghost use Rattle.room.specs.Room.{roomFor};
 use layout::Sections;
-use refusal::LIMIT;
-use refusal::MAX_WORDS;
-use refusal::ROOM;
-use refusal::ROOM_NUMBERS;
-use refusal::Refusal;
 
 mod places;
 mod renew;
 mod table;
+
+// The records that have flags.
+enum Flagged {
+    Accept,
+    Config,
+}
 
 // Fills the room with the numbers of the table whose words these are, and answers where its sections start. Where there is no table,
 // by its layout, the room is all zeros. The index rules are not judged here.
@@ -20,19 +22,7 @@ pub fn fill(words: &[u32], room: &mut [u32]) -> Sections
     ensures { λ r. ⌜ (r ≡ laidOut (now (words .entry)) (length (now (room .entry)))) × (now (room .exit) ≡ roomFor (now (words .entry)) (length (now (room .entry))) r) ⌝ }
 {
     written::clear(room);
-    if room.len() < ROOM_NUMBERS {
-        return Sections::Unfound(Refusal {
-            number: ROOM,
-            place: 0,
-        });
-    }
-    if MAX_WORDS < words.len() {
-        return Sections::Unfound(Refusal {
-            number: LIMIT,
-            place: MAX_WORDS,
-        });
-    }
-    match layout::find_sections(words) {
+    match limits::find_within_limits(words, room.len()) {
         Sections::Found {
             modes,
             states,

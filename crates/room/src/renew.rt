@@ -3,11 +3,33 @@
 ghost use mathlib.Core.Path.{_≡_};
 ghost use Prim.Native.Nat.{_≤_, _<_, _+_, _*_};
 ghost use lib.ListN.{length};
-ghost use Rattle.words.specs.Records.{acceptAt, configAt, continuationAt};
+ghost use Rattle.words.specs.Records.{continuationAt};
 ghost use Rattle.words.specs.declared.Place.the-variants.{Next};
 ghost use Rattle.written.specs.Over.{Put};
-ghost use Rattle.room.specs.Room.{starts, each, copied, flag, renewed, acceptMade, configMade, continuationMade};
+ghost use Rattle.room.specs.Room.{copied, flag, renewed, continuationMade};
+ghost use Rattle.room.specs.Flagged.{leads, flags, flaggedAt, flaggedMade};
+use crate::Flagged;
 use words::Place;
+
+// Where a record with flags ends.
+fn read_flagged(kind: Flagged, words: &[u32], at: usize) -> Place
+    ensures { λ r. ⌜ r ≡ flaggedAt kind (now (words .entry)) at ⌝ }
+{
+    match kind {
+        Flagged::Accept => listed_words::read_accept(words, at),
+        Flagged::Config => listed_words::read_config(words, at),
+    }
+}
+
+// How many words it has before its flags, which are as many.
+fn leads(kind: Flagged) -> usize
+    ensures { λ r. ⌜ r ≡ leads kind ⌝ }
+{
+    match kind {
+        Flagged::Accept => 1,
+        Flagged::Config => 2,
+    }
+}
 
 fn flag(x: u32) -> u32
     ensures { λ r. ⌜ r ≡ flag x ⌝ }
@@ -39,29 +61,65 @@ pub(crate) fn copy_words(
     m
 }
 
-// The accept at `at`, which ends at `behind`.
-fn put_accept(words: &[u32], at: usize, behind: usize, room: &mut [u32], n: usize) -> usize
-    requires read { ⌜ acceptAt (now words) at ≡ Next behind ⌝ }
-    requires fits { ⌜ n + length (acceptMade (now words) at) ≤ length (now room) ⌝ }
-    ensures { λ r. ⌜ Put (acceptMade (now (words .entry)) at) n (now (room .entry)) r (now (room .exit)) ⌝ }
-{
-    room[n] = words[at];
-    room[n + 1] = flag(words[at + 1]);
-    copy_words(words, at + 2, behind - (at + 2), room, n + 2)
-}
-
-// `count` accepts from `at`.
-fn put_accepts(words: &[u32], count: u32, at: usize, room: &mut [u32], n: usize) -> usize
-    requires fits { ⌜ n + length (each (acceptMade (now words)) (starts (acceptAt (now words)) count at)) ≤ length (now room) ⌝ }
-    ensures { λ r. ⌜ Put (each (acceptMade (now (words .entry))) (starts (acceptAt (now (words .entry))) count at)) n (now (room .entry)) r (now (room .exit)) ⌝ }
+// `count` flags from `at`.
+fn put_flags(words: &[u32], at: usize, count: usize, room: &mut [u32], n: usize) -> usize
+    requires within { ⌜ at + count ≤ length (now words) ⌝ }
+    requires fits { ⌜ n + length (flags (now words) at count) ≤ length (now room) ⌝ }
+    ensures { λ r. ⌜ Put (flags (now (words .entry)) at count) n (now (room .entry)) r (now (room .exit)) ⌝ }
 {
     let mut here = at;
     let mut left = count;
     let mut m = n;
     while 0 < left {
-        match listed_words::read_accept(words, here) {
+        room[m] = flag(words[here]);
+        here += 1;
+        left -= 1;
+        m += 1;
+    }
+    m
+}
+
+// The record with flags at `at`, which ends at `behind`.
+fn put_flagged(
+    kind: Flagged,
+    words: &[u32],
+    at: usize,
+    behind: usize,
+    room: &mut [u32],
+    n: usize,
+) -> usize
+    requires read { ⌜ flaggedAt kind (now words) at ≡ Next behind ⌝ }
+    requires fits { ⌜ n + length (flaggedMade kind (now words) at) ≤ length (now room) ⌝ }
+    ensures { λ r. ⌜ Put (flaggedMade kind (now (words .entry)) at) n (now (room .entry)) r (now (room .exit)) ⌝ }
+{
+    let k = leads(kind);
+    let flags = at + k;
+    let rest = flags + k;
+    let a = copy_words(words, at, k, room, n);
+    let b = put_flags(words, flags, k, room, a);
+    copy_words(words, rest, behind - rest, room, b)
+}
+
+// The accepts, or the configs of a continuation, whose count stands at `at`.
+pub(crate) fn renew_flagged(
+    kind: Flagged,
+    words: &[u32],
+    at: usize,
+    room: &mut [u32],
+    n: usize,
+) -> usize
+    requires within { ⌜ at < length (now words) ⌝ }
+    requires fits { ⌜ n + length (renewed (flaggedAt kind) (flaggedMade kind) (now words) at) ≤ length (now room) ⌝ }
+    ensures { λ r. ⌜ Put (renewed (flaggedAt kind) (flaggedMade kind) (now (words .entry)) at) n (now (room .entry)) r (now (room .exit)) ⌝ }
+{
+    let mut left = words[at];
+    let mut here = at + 1;
+    room[n] = left;
+    let mut m = n + 1;
+    while 0 < left {
+        match read_flagged(kind, words, here) {
             Place::Next(p) => {
-                m = put_accept(words, here, p, room, m);
+                m = put_flagged(kind, words, here, p, room, m);
                 here = p;
                 left -= 1;
             }
@@ -71,64 +129,6 @@ fn put_accepts(words: &[u32], count: u32, at: usize, room: &mut [u32], n: usize)
         }
     }
     m
-}
-
-// The section of accepts, whose count stands at `at`.
-pub(crate) fn renew_accepts(words: &[u32], at: usize, room: &mut [u32], n: usize) -> usize
-    requires within { ⌜ at < length (now words) ⌝ }
-    requires fits { ⌜ n + length (renewed acceptAt acceptMade (now words) at) ≤ length (now room) ⌝ }
-    ensures { λ r. ⌜ Put (renewed acceptAt acceptMade (now (words .entry)) at) n (now (room .entry)) r (now (room .exit)) ⌝ }
-{
-    let count = words[at];
-    room[n] = count;
-    put_accepts(words, count, at + 1, room, n + 1)
-}
-
-// The config at `at`, which ends at `behind`.
-fn put_config(words: &[u32], at: usize, behind: usize, room: &mut [u32], n: usize) -> usize
-    requires read { ⌜ configAt (now words) at ≡ Next behind ⌝ }
-    requires fits { ⌜ n + length (configMade (now words) at) ≤ length (now room) ⌝ }
-    ensures { λ r. ⌜ Put (configMade (now (words .entry)) at) n (now (room .entry)) r (now (room .exit)) ⌝ }
-{
-    room[n] = words[at];
-    room[n + 1] = words[at + 1];
-    room[n + 2] = flag(words[at + 2]);
-    room[n + 3] = flag(words[at + 3]);
-    copy_words(words, at + 4, behind - (at + 4), room, n + 4)
-}
-
-// `count` configs from `at`.
-fn put_configs(words: &[u32], count: u32, at: usize, room: &mut [u32], n: usize) -> usize
-    requires fits { ⌜ n + length (each (configMade (now words)) (starts (configAt (now words)) count at)) ≤ length (now room) ⌝ }
-    ensures { λ r. ⌜ Put (each (configMade (now (words .entry))) (starts (configAt (now (words .entry))) count at)) n (now (room .entry)) r (now (room .exit)) ⌝ }
-{
-    let mut here = at;
-    let mut left = count;
-    let mut m = n;
-    while 0 < left {
-        match listed_words::read_config(words, here) {
-            Place::Next(p) => {
-                m = put_config(words, here, p, room, m);
-                here = p;
-                left -= 1;
-            }
-            Place::Refused(_) => {
-                return m;
-            }
-        }
-    }
-    m
-}
-
-// The configs of a continuation, whose count stands at `at`.
-fn renew_configs(words: &[u32], at: usize, room: &mut [u32], n: usize) -> usize
-    requires within { ⌜ at < length (now words) ⌝ }
-    requires fits { ⌜ n + length (renewed configAt configMade (now words) at) ≤ length (now room) ⌝ }
-    ensures { λ r. ⌜ Put (renewed configAt configMade (now (words .entry)) at) n (now (room .entry)) r (now (room .exit)) ⌝ }
-{
-    let count = words[at];
-    room[n] = count;
-    put_configs(words, count, at + 1, room, n + 1)
 }
 
 // How many words the contexts take, with their count.
@@ -146,17 +146,19 @@ fn put_continuation(words: &[u32], at: usize, behind: usize, room: &mut [u32], n
 {
     let contexts = contexts_size(words[at]);
     let m = copy_words(words, at, contexts, room, n);
-    renew_configs(words, at + contexts, room, m)
+    renew_flagged(Flagged::Config, words, at + contexts, room, m)
 }
 
-// `count` continuations from `at`.
-fn put_continuations(words: &[u32], count: u32, at: usize, room: &mut [u32], n: usize) -> usize
-    requires fits { ⌜ n + length (each (continuationMade (now words)) (starts (continuationAt (now words)) count at)) ≤ length (now room) ⌝ }
-    ensures { λ r. ⌜ Put (each (continuationMade (now (words .entry))) (starts (continuationAt (now (words .entry))) count at)) n (now (room .entry)) r (now (room .exit)) ⌝ }
+// The section of continuations, whose count stands at `at`.
+pub(crate) fn renew_continuations(words: &[u32], at: usize, room: &mut [u32], n: usize) -> usize
+    requires within { ⌜ at < length (now words) ⌝ }
+    requires fits { ⌜ n + length (renewed continuationAt continuationMade (now words) at) ≤ length (now room) ⌝ }
+    ensures { λ r. ⌜ Put (renewed continuationAt continuationMade (now (words .entry)) at) n (now (room .entry)) r (now (room .exit)) ⌝ }
 {
-    let mut here = at;
-    let mut left = count;
-    let mut m = n;
+    let mut left = words[at];
+    let mut here = at + 1;
+    room[n] = left;
+    let mut m = n + 1;
     while 0 < left {
         match continuation_words::read_continuation(words, here) {
             Place::Next(p) => {
@@ -170,15 +172,4 @@ fn put_continuations(words: &[u32], count: u32, at: usize, room: &mut [u32], n: 
         }
     }
     m
-}
-
-// The section of continuations, whose count stands at `at`.
-pub(crate) fn renew_continuations(words: &[u32], at: usize, room: &mut [u32], n: usize) -> usize
-    requires within { ⌜ at < length (now words) ⌝ }
-    requires fits { ⌜ n + length (renewed continuationAt continuationMade (now words) at) ≤ length (now room) ⌝ }
-    ensures { λ r. ⌜ Put (renewed continuationAt continuationMade (now (words .entry)) at) n (now (room .entry)) r (now (room .exit)) ⌝ }
-{
-    let count = words[at];
-    room[n] = count;
-    put_continuations(words, count, at + 1, room, n + 1)
 }

@@ -5,7 +5,8 @@ ghost use lib.ListN.{length};
 ghost use Rattle.layout.specs.declared.Sections.the-variants.{Found};
 ghost use Rattle.layout.specs.Layout.{layoutOf};
 ghost use Rattle.written.specs.Over.{Put};
-ghost use Rattle.room.specs.Room.{four, header, laterMade, made, laterPlaces, places, body, numbers};
+ghost use Rattle.room.specs.Room.{four, header, made, places, numbers};
+use crate::Flagged;
 use crate::places;
 use crate::renew;
 use records::Kind;
@@ -46,23 +47,6 @@ fn put_header(
     put_four(wide_rows, accepts, escape_rows, continuations, room, n)
 }
 
-// The words of the escape rows and the continuations, from place `n` on.
-fn put_later_words(
-    words: &[u32],
-    escape_rows: usize,
-    continuations: usize,
-    room: &mut [u32],
-    n: usize,
-) -> usize
-    requires { ⌜ («escape_rows» ≤ continuations) × (continuations + 1 ≤ length (now words)) ⌝ }
-    requires fits { ⌜ n + length (laterMade (now words) «escape_rows» continuations) ≤ length (now room) ⌝ }
-    ensures { λ r. ⌜ Put (laterMade (now (words .entry)) «escape_rows» continuations) n (now (room .entry)) r (now (room .exit)) ⌝ }
-{
-    let count = continuations - escape_rows;
-    let a = renew::copy_words(words, escape_rows, count, room, n);
-    renew::renew_continuations(words, continuations, room, a)
-}
-
 // The words, from place `n` on: all but the flags as they are.
 fn put_words(
     words: &[u32],
@@ -77,27 +61,10 @@ fn put_words(
     ensures { λ r. ⌜ Put (made (now (words .entry)) accepts «escape_rows» continuations) n (now (room .entry)) r (now (room .exit)) ⌝ }
 {
     let a = renew::copy_words(words, 0, accepts, room, n);
-    let b = renew::renew_accepts(words, accepts, room, a);
-    put_later_words(words, escape_rows, continuations, room, b)
-}
-
-// Where the accepts, the escape rows and the continuations start, from place `n` on.
-fn put_later_places(
-    words: &[u32],
-    accepts: usize,
-    escape_rows: usize,
-    continuations: usize,
-    room: &mut [u32],
-    n: usize,
-) -> usize
-    requires { ⌜ (accepts ≤ «escape_rows») × ((«escape_rows» ≤ continuations) × (continuations + 1 ≤ length (now words))) ⌝ }
-    requires limit { ⌜ length (now words) ≤ 8192 ⌝ }
-    requires fits { ⌜ n + length (laterPlaces (now words) accepts «escape_rows» continuations) ≤ length (now room) ⌝ }
-    ensures { λ r. ⌜ Put (laterPlaces (now (words .entry)) accepts «escape_rows» continuations) n (now (room .entry)) r (now (room .exit)) ⌝ }
-{
-    let a = places::put_record_places(Kind::Accept, words, accepts, room, n);
-    let b = places::put_record_places(Kind::EscapeRow, words, escape_rows, room, a);
-    places::put_record_places(Kind::Continuation, words, continuations, room, b)
+    let b = renew::renew_flagged(Flagged::Accept, words, accepts, room, a);
+    let count = continuations - escape_rows;
+    let c = renew::copy_words(words, escape_rows, count, room, b);
+    renew::renew_continuations(words, continuations, room, c)
 }
 
 // Where the records of variable length start, from place `n` on.
@@ -119,37 +86,9 @@ fn put_places(
 {
     let a = places::put_record_places(Kind::AsciiRun, words, runs, room, n);
     let b = places::put_record_places(Kind::WideRow, words, wide_rows, room, a);
-    put_later_places(words, accepts, escape_rows, continuations, room, b)
-}
-
-// The words and the places, from place `n` on.
-fn put_body(
-    words: &[u32],
-    runs: usize,
-    wide_rows: usize,
-    accepts: usize,
-    escape_rows: usize,
-    continuations: usize,
-    room: &mut [u32],
-    n: usize,
-) -> usize
-    requires rows { ⌜ (runs ≤ «wide_rows») × («wide_rows» ≤ accepts) ⌝ }
-    requires { ⌜ (accepts ≤ «escape_rows») × ((«escape_rows» ≤ continuations) × (continuations + 1 ≤ length (now words))) ⌝ }
-    requires limit { ⌜ length (now words) ≤ 8192 ⌝ }
-    requires fits { ⌜ n + length (body (now words) runs «wide_rows» accepts «escape_rows» continuations) ≤ length (now room) ⌝ }
-    ensures { λ r. ⌜ Put (body (now (words .entry)) runs «wide_rows» accepts «escape_rows» continuations) n (now (room .entry)) r (now (room .exit)) ⌝ }
-{
-    let a = put_words(words, accepts, escape_rows, continuations, room, n);
-    put_places(
-        words,
-        runs,
-        wide_rows,
-        accepts,
-        escape_rows,
-        continuations,
-        room,
-        a,
-    )
+    let c = places::put_record_places(Kind::Accept, words, accepts, room, b);
+    let d = places::put_record_places(Kind::EscapeRow, words, escape_rows, room, c);
+    places::put_record_places(Kind::Continuation, words, continuations, room, d)
 }
 
 // All of it, over the front of the room.
@@ -182,7 +121,8 @@ pub(crate) fn put_table(
         continuations,
         room,
     );
-    put_body(
+    let m = put_words(words, accepts, escape_rows, continuations, room, n);
+    put_places(
         words,
         runs,
         wide_rows,
@@ -190,6 +130,6 @@ pub(crate) fn put_table(
         escape_rows,
         continuations,
         room,
-        n,
+        m,
     )
 }

@@ -16,12 +16,13 @@ use Rattle.layout.specs.declared.Sections.{Sections}
 use Rattle.layout.specs.declared.Sections.the-variants.{Found, Unfound}
 use Rattle.rules.specs.Rules.{broken}
 use Rattle.written.specs.Over.{zeros, padded}
-use Rattle.room.specs.Room.{laidOut, roomFor, numbers}
+use Rattle.limits.specs.Limits.{laidOut}
+use Rattle.room.specs.Room.{roomFor, numbers}
 use Rattle.layout.proofs.Found.{found}
 use Rattle.room.proofs.Sizes.{numbers-length}
 use Rattle.codec.specs.declared.Decoded.the-variants as decoded
 use Rattle.codec.specs.Decode.{judged, decodedFrom, decodeOf, keptFrom, roomOf}
-use Rattle.codec.proofs.Decoding.{kept}
+use Rattle.limits.proofs.Laws.{kept}
 use Rattle.judge.specs.Judge.{wordsPart, accepted, isTable}
 use Rattle.encode.specs.declared.Encoded.the-variants.{Words}
 use Rattle.encode.specs.Encode.{encodeOf, outOf}

@@ -1,42 +1,9 @@
--- The answers of lists, segments and masks in C: a number of 0 and the counts, or the refusal's number and place; and what is left in the buffers.
--- s, n and d are how many numbers the buffers for segments, masks and distinct masks have, x the list read. Assumes nothing.
-use Prim.Native.Nat.{ℕ}
-use mathlib.Core.Path.{_≡_}
-use mathlib.Core.List.{List}
+-- The answer about segments in C: a number of 0 and the count, or the refusal's number and place. Assumes nothing.
 use lib.ListN.{getD}
 use Rattle.refusal.specs.Said.{Said, ok, no}
-use Rattle.transitions.specs.Read.{Parsed}
-use Rattle.segments.specs.Answer.{segmentsIn}
-use Rattle.masks.specs.Masks.{matrix, distinctOf}
-use Rattle.masks.specs.Answer.{counted, masksIn}
-use Rattle.segments_c.specs.declared.CTransitions.{CTransitions}
 use Rattle.segments_c.specs.declared.CSegments.{CSegments}
-use Rattle.segments_c.specs.declared.CMasks.{CMasks}
-
--- how many transitions and intervals
-abbrev pub transitionsInC : Said → CTransitions
-transitionsInC (ok l) = record { number = 0; place = 0; transitions = getD l 0 0; intervals = getD l 1 0 }
-transitionsInC (no n p) = record { number = n; place = p; transitions = 0; intervals = 0 }
 
 -- how many segments
 abbrev pub segmentsInC : Said → CSegments
 segmentsInC (ok l) = record { number = 0; place = 0; segments = getD l 0 0 }
 segmentsInC (no n p) = record { number = n; place = p; segments = 0 }
-
--- how many masks, and of how many words each
-abbrev pub masksInC : Said → CMasks
-masksInC (ok l) = record { number = 0; place = 0; masks = getD l 0 0; words = getD l 1 0 }
-masksInC (no n p) = record { number = n; place = p; masks = 0; words = 0 }
-
--- the answer says it, and the buffers hold it: the segments, and a mask for each ..
-pub record MatrixInC (r : CMasks) (s : ℕ) (segments : List ℕ) (n : ℕ) (masks : List ℕ) (x : Parsed) : Type 0 where
-  pub says : r ≡ masksInC (counted matrix x)
-  pub low-high : segments ≡ segmentsIn s x
-  pub leaves : masks ≡ masksIn matrix n x
-
--- .. and the distinct ones too
-pub record DistinctInC (r : CMasks) (s : ℕ) (segments : List ℕ) (n : ℕ) (masks : List ℕ) (d : ℕ) (distinct : List ℕ) (x : Parsed) : Type 0 where
-  pub says : r ≡ masksInC (counted distinctOf x)
-  pub low-high : segments ≡ segmentsIn s x
-  pub each : masks ≡ masksIn matrix n x
-  pub leaves : distinct ≡ masksIn distinctOf d x

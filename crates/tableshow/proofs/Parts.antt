@@ -1,30 +1,32 @@
 -- The laws of numbers on a page, and of the rows of a state. Assumes nothing.
-use Prim.Native.Nat.{ℕ, zero, suc, _+_, _*_, _-_, _/_, _%_, _<_, _≤_}
+use Prim.Native.Nat.{ℕ, zero, suc, _+_, _*_, _-_, _%_, _<_, _≤_}
 use native.Mathlib.Nat.{not-suc-le-zero, le-of-suc-le-suc}
 use native.Mathlib.Omega.{arith}
-use mathlib.Core.Path.{_≡_, refl, sym, ap, _∙_}
-use mathlib.Core.Bool.{Bool, true, false}
-use mathlib.Core.List.{List, [], _∷_, _++_}
+use mathlib.Core.Path.{_≡_, refl, _∙_}
+use mathlib.Core.Bool.{Bool}
+use mathlib.Core.List.{List, [], _∷_}
 use mir.Syntax.{w64}
 use mir.Val.{Fits}
 use borrow.Author.Needs.{needs}
 use borrow.Author.Tests.{lt-ltb, le-ltb, eq-eqb, ne-eqb}
-use lib.ListN.{length, getD, take, drop}
-use Rattle.io.specs.Counts.{Counts}
+use lib.ListN.{length, getD, take}
 use Rattle.io.specs.Digits.{digits, Fewest}
 use Rattle.refusal.specs.Said.{Said}
 use Rattle.program_io.proofs.Decimal.{found}
 use Rattle.refusal.specs.Fixed.{NONE}
 use Rattle.refusal.specs.Lists.{pick}
+use Rattle.accepts.specs.Record.{recordOf}
 use Rattle.modes.specs.Start.{modeStart}
 use Rattle.targets.specs.Targets.{asciiTarget, eofTarget}
 use Rattle.accepts.specs.Accept.{acceptOf}
 use Rattle.continuations.specs.Continuation.{eofContinuation}
-use Rattle.tableshow.specs.Shown.{Shown}
-use Rattle.tableshow.specs.Names.{number, hexDigit, two, four}
-use Rattle.tableshow.specs.Rows.{after, ending, item, orElse, targetOn, edge, lowAfter, itemsAfter, edgeAt, lowAt, itemsAt, asciiFrom, rangesFrom, rowText, listed, wideAt, wideRow, firstWith, wideWith, wideText, escapesAt, escapesText, runAt}
+use Rattle.tableshow.specs.Shown.{Shown, joined}
+use Rattle.tableshow.specs.Names.{number, hexDigit, range, target}
+use Rattle.tableshow.specs.Forms.{formed}
+use Rattle.tableshow.specs.Rows.{gap, after, ending, item, orElse, targetOn, edge, lowAfter, itemsAfter, edgeAt, lowAt, itemsAt, asciiFrom, asciiText, rangesFrom, rowText, listed, wideAt, wideRow, firstWith, wideWith, wideText, escapesAt, escapesText, runAt}
 use Rattle.tableshow.specs.Texts.{escapes-label}
-use Rattle.tableshow.specs.Page.{part, recordText, recordSaid, acceptText, runText, runLine, endTarget, endContinuation, startText}
+use Rattle.tableshow.specs.Page.{part, recordLine, saidLine, acceptText, headText, runText, runLine, endTarget, endContinuation, startLine, modeText, tableText, reasonText, refusalText}
+use Rattle.tableshow.proofs.Filling.{is-no-accept, is-state, is-table, is-refused, is-ascii, is-wide, is-wide-as, is-escapes}
 use Rattle.tableshow.proofs.Shows.{shows, joined-2, if-same, if-not-same, if-same-as, if-not-same-as, shown-none, Coming, coming-start, coming-turn, coming-last}
 
 -- Numbers
@@ -41,17 +43,7 @@ module _ (x : ℕ) where
   unfolding hexDigit
   digit-high d e h = rw (← e, le-ltb d 10 h)
 
-module _ (x : ℕ) {a n r : ℕ} {d new : List ℕ} where
-  pub put-one : Shown (a ∷ []) n d r new → a ≡ hexDigit x → Shown (hexDigit x ∷ []) n d r new
-  put-one p i = rw (← i) p
-
-  pub put-two : {b : ℕ} → Shown (a ∷ b ∷ []) n d r new → a ≡ hexDigit (x / 16) → b ≡ hexDigit x → Shown (two x) n d r new
-  put-two p i j = rw (← i, ← j) p
-
-  pub put-four : {b c e : ℕ} → Shown (a ∷ b ∷ c ∷ e ∷ []) n d r new → a ≡ hexDigit (x / 4096) → b ≡ hexDigit (x / 256) → c ≡ hexDigit (x / 16) → e ≡ hexDigit x → Shown (four x) n d r new
-  put-four p i j k l = rw (← i, ← j, ← k, ← l) p
-
-pub ruleset numbers = (shows, number-put, digit-low, digit-high, put-one, put-two, put-four)
+pub ruleset numbers = (needs, number-put, digit-low, digit-high)
 
 -- Items
 
@@ -108,21 +100,6 @@ module _ (w : List ℕ) (s x : ℕ) where
 
 pub ruleset items = (needs, after-less, after-three, items-same, items-dead, items-on, low-same, low-not, edge-same, edge-dead, edge-on, on-ascii, on-past)
 
-module _ (w : List ℕ) (s x t v : ℕ) {r : ℕ} where
-  pub edge-at : (low p : ℕ) {n : ℕ} {d new : List ℕ} → Shown (edge t v low x p) n d r new → t ≡ targetOn w s x → v ≡ targetOn w s (x + 1) → Shown (edgeAt w s low x p) n d r new
-  unfolding edgeAt
-  edge-at low p q a b = rw (← a, ← b) q
-
-  pub low-at : (low : ℕ) → r ≡ lowAfter t v low (x + 1) → t ≡ targetOn w s x → v ≡ targetOn w s (x + 1) → r ≡ lowAt w s low x
-  unfolding lowAt
-  low-at low q a b = rw (← a, ← b) q
-
-  pub items-at : (p : ℕ) → r ≡ itemsAfter t v p → t ≡ targetOn w s x → v ≡ targetOn w s (x + 1) → r ≡ itemsAt w s x p
-  unfolding itemsAt
-  items-at p q a b = rw (← a, ← b) q
-
-pub ruleset at-symbol = (needs, edge-at, low-at, items-at)
-
 -- A number of the room
 
 pub past : (w : List ℕ) (at : ℕ) → length w ≤ at → 0 ≡ getD w at 0
@@ -150,18 +127,37 @@ pub ruleset places = (needs, past, is-run-at, is-wide-at, is-wide-row, is-escape
 suc-of : (left : ℕ) → 0 < left → left ≡ suc (left - 1)
 suc-of left h = omega arith
 
-module _ (w : List ℕ) (s left x low p : ℕ) {xs : List ℕ} {n : ℕ} {old : List ℕ} {m : ℕ} {out : List ℕ} where
-  pub edges-turn : {r l i : ℕ} {new : List ℕ} → Shown (edgeAt w s low x p) m out r new → l ≡ lowAt w s low x → i ≡ itemsAt w s x p → 0 < left → Coming xs n old (asciiFrom w s left x low p) m out → Coming xs n old (asciiFrom w s (left - 1) (x + 1) l i) r new
-  unfolding asciiFrom
-  edges-turn q c e h g =
-      let g' : Coming xs n old (asciiFrom w s (suc (left - 1)) x low p) m out = rw (suc-of left h) at g in
-      rw (c, e) (coming-turn q g')
+-- the symbols from x on are to come, of which so many are left; `to` is the target on the first of them
+pub record Edging (w : List ℕ) (s count n : ℕ) (old : List ℕ) (left x low p to m : ℕ) (out : List ℕ) : Type 0 where
+  pub all : x + left ≡ count
+  pub on : to ≡ targetOn w s x
+  pub coming : Coming (asciiFrom w s count 0 0 0) n old (asciiFrom w s left x low p) m out
 
-  pub edges-done : {r : ℕ} {new : List ℕ} → Shown (ending p) m out r new → left ≤ 0 → Coming xs n old (asciiFrom w s left x low p) m out → Shown xs n old r new
-  unfolding asciiFrom
-  edges-done q h g = let z : left ≡ 0 = omega arith in coming-last q (rw z at g)
+pub edges-start : (w : List ℕ) (s count n : ℕ) (old : List ℕ) {to : ℕ} → to ≡ targetOn w s 0 → Edging w s count n old count 0 0 0 to n old
+edges-start w s count n old e = record { all = omega arith; on = e; coming = coming-start _ _ _ }
 
-pub ruleset edges = (needs, coming-start, edges-turn, edges-done)
+module _ {w : List ℕ} {s count n : ℕ} {old : List ℕ} {left x low p to m : ℕ} {out : List ℕ} where
+  pub edges-turn : {v r l i : ℕ} {new : List ℕ} → Shown (edge to v low x p) m out r new → l ≡ lowAfter to v low (x + 1) → i ≡ itemsAfter to v p → v ≡ targetOn w s (x + 1) → 0 < left → Edging w s count n old left x low p to m out → Edging w s count n old (left - 1) (x + 1) l i v r new
+  unfolding asciiFrom edgeAt lowAt itemsAt
+  edges-turn q c e b h g =
+      let k : x + left ≡ count = g .all in
+      let g' : Coming (asciiFrom w s count 0 0 0) n old (asciiFrom w s (suc (left - 1)) x low p) m out = rw (suc-of left h) at (g .coming) in
+      record {
+        all = omega arith;
+        on = b;
+        coming = rw (c, e, g .on, b) (coming-turn (rw (g .on, b) at q) g');
+      }
+
+  pub edges-done : (f : ℕ) {r : ℕ} {new : List ℕ} → Shown (formed f 0 0 0) m out r new → formed f 0 0 0 ≡ ending p → left ≤ 0 → Edging w s count n old left x low p to m out → Shown (asciiFrom w s count 0 0 0) n old r new
+  unfolding asciiFrom
+  edges-done f q e h g = let z : left ≡ 0 = omega arith in coming-last (rw e at q) (rw z at (g .coming))
+
+  pub edges-size : Edging w s count n old left x low p to m out → length out ≡ length old
+  edges-size g = g .coming .size
+
+pub ruleset edges = (needs, edges-start, edges-turn, edges-done, edges-size)
+
+pub ruleset edges-on = (edges-turn)
 
 module _ (kind : ℕ) (w : List ℕ) (left at p : ℕ) {xs : List ℕ} {n : ℕ} {old : List ℕ} {m : ℕ} {out : List ℕ} where
   pub ranges-turn : {a b c r i : ℕ} {new : List ℕ} → Shown (item p a b kind c) m out r new → a ≡ getD w at 0 → b ≡ getD w (at + 1) 0 → c ≡ getD w (at + 2) 0 → i ≡ after p → 0 < left → Coming xs n old (rangesFrom kind w left at p) m out → Coming xs n old (rangesFrom kind w (left - 1) (at + 3) i) r new
@@ -170,9 +166,9 @@ module _ (kind : ℕ) (w : List ℕ) (left at p : ℕ) {xs : List ℕ} {n : ℕ}
       let g' : Coming xs n old (rangesFrom kind w (suc (left - 1)) at p) m out = rw (suc-of left h) at g in
       rw e (coming-turn (rw (a, b, c) at q) g')
 
-  pub ranges-done : {r : ℕ} {new : List ℕ} → Shown (ending p) m out r new → left ≤ 0 → Coming xs n old (rangesFrom kind w left at p) m out → Shown xs n old r new
+  pub ranges-done : (f : ℕ) {r : ℕ} {new : List ℕ} → Shown (formed f 0 0 0) m out r new → formed f 0 0 0 ≡ ending p → left ≤ 0 → Coming xs n old (rangesFrom kind w left at p) m out → Shown xs n old r new
   unfolding rangesFrom
-  ranges-done q h g = let z : left ≡ 0 = omega arith in coming-last q (rw z at g)
+  ranges-done f q e h g = let z : left ≡ 0 = omega arith in coming-last (rw e at q) (rw z at g)
 
 pub ruleset ranges = (needs, coming-start, ranges-turn, ranges-done)
 
@@ -195,40 +191,73 @@ module _ (w : List ℕ) (row left t : ℕ) {f : ℕ} where
 
 pub ruleset firsts = (needs, first-turn, first-hit, first-done)
 
--- What is shown of a number that a call answered
+-- What is shown by a form, of numbers that calls answered
+
+module _ {n : ℕ} {d : List ℕ} {r : ℕ} {new : List ℕ} (f : ℕ) where
+  pub said-put : (g : Said) (x : Bool) (k : ℕ) {a l b : ℕ} → Shown (formed f k a b) n d r new → ((j rule : ℕ) → formed f j rule b ≡ recordLine j rule l b) → a ≡ part 0 g → l ≡ pick x 1 0 → pick x 1 0 ≡ part 1 g → b ≡ part 2 g → Shown (saidLine k g) n d r new
+  unfolding saidLine
+  said-put g x k {a} p h i j e b = rw (← i, ← e, ← j, ← b) (rw (h k a) at p)
+
+  module _ (w : List ℕ) (s : ℕ) {k : ℕ} {g : Said} where
+    pub start-put : Shown (formed f s k 0) n d r new → ((m : ℕ) → formed f m k 0 ≡ startLine m k) → k ≡ orElse NONE g → g ≡ modeStart w s → Shown (modeText w s) n d r new
+    start-put p h a b = rw (← b, ← a) (rw (h s) at p)
+
+    pub end-put : Shown (formed f k 0 0) n d r new → formed f k 0 0 ≡ endTarget k → k ≡ orElse 65535 g → g ≡ eofTarget w s → Shown (endTarget (orElse 65535 (eofTarget w s))) n d r new
+    end-put p h a b = rw (← b, ← a) (rw h at p)
+
+    pub continuation-put : Shown (formed f k 0 0) n d r new → formed f k 0 0 ≡ endContinuation k → k ≡ orElse NONE g → g ≡ eofContinuation w s → Shown (endContinuation (orElse NONE (eofContinuation w s))) n d r new
+    continuation-put p h a b = rw (← b, ← a) (rw h at p)
+
+  pub run-line : (w : List ℕ) (at : ℕ) {a b c : ℕ} → Shown (formed f a b c) n d r new → ((y z : ℕ) → formed f a y z ≡ runText a y z) → a ≡ getD w at 0 → b ≡ getD w (at + 1) 0 → c ≡ getD w (at + 2) 0 → Shown (runLine w at) n d r new
+  run-line w at {a} {b} {c} p h i j k = rw (← i, ← j, ← k) (rw (h b c) at p)
+
+  module _ {q : ℕ} {d₂ : List ℕ} where
+    pub item-put : (p low high kind t g : ℕ) → Shown (formed f low high 0) n d r new → Shown (formed g t 0 0) r new q d₂ → ((a b : ℕ) → formed f a b 0 ≡ joined (gap p ∷ range a b ∷ [])) → formed g t 0 0 ≡ target kind t → Shown (item p low high kind t) n d q d₂
+    item-put p low high kind t g x y h i = joined-2 (rw (h low high) at x) (rw i at y)
+
+    pub refusal-put : (m place : ℕ) → Shown (formed 692 m place 0) n d r new → Shown (formed f 0 0 0) r new q d₂ → formed f 0 0 0 ≡ reasonText m place → Shown (refusalText m place) n d q d₂
+    refusal-put m place x y h = joined-2 (rw (is-refused m place) at x) (rw h at y)
 
 module _ {n : ℕ} {d : List ℕ} {r : ℕ} {new : List ℕ} where
-  pub said-put : (g : Said) (x : Bool) {a f b : ℕ} → Shown (recordText a f b) n d r new → a ≡ part 0 g → f ≡ pick x 1 0 → pick x 1 0 ≡ part 1 g → b ≡ part 2 g → Shown (recordSaid g) n d r new
-  unfolding recordSaid
-  said-put g x p a f e b = rw (← a, ← e, ← f, ← b) p
+  pub table-put : (a b c : ℕ) → Shown (formed 63 a b c) n d r new → Shown (tableText a b c) n d r new
+  table-put a b c p = rw (is-table a b c) at p
 
-  pub record-put : (g h : Said) → Shown (recordSaid g) n d r new → g ≡ h → Shown (recordSaid h) n d r new
-  record-put g h p e = rw (← e) p
+  module _ (w : List ℕ) (k : ℕ) where
+    pub accept-none : Shown (formed 157 0 0 0) n d r new → k ≡ NONE → Shown (acceptText w k) n d r new
+    accept-none p h = if-same k NONE _ _ h (rw is-no-accept at p)
+
+    pub accept-put : (g : Said) → Shown (saidLine k g) n d r new → g ≡ recordOf w k → (k ≡ NONE → ⊥) → Shown (acceptText w k) n d r new
+    accept-put g p e h = if-not-same k NONE _ _ h (rw e at p)
 
   module _ (w : List ℕ) (s : ℕ) where
+    pub head-put : {k q : ℕ} {g : Said} {d₂ : List ℕ} → Shown (formed 148 s 0 0) n d r new → Shown (acceptText w k) r new q d₂ → k ≡ orElse NONE g → g ≡ acceptOf w s → Shown (headText w s) n d q d₂
+    head-put p q a b = joined-2 (rw (is-state s) at p) (rw (a, b) at q)
+
+    pub ascii-put : {q : ℕ} {d₂ : List ℕ} → Shown (formed 497 0 0 0) n d r new → Shown (asciiFrom w s 128 0 0 0) r new q d₂ → Shown (asciiText w s) n d q d₂
+    ascii-put p q = joined-2 (rw is-ascii at p) q
+
     pub wide-put : {at t row : ℕ} → Shown (wideWith w s at t) n d r new → at ≡ wideAt w row → t ≡ firstWith w row s 0 → row ≡ wideRow w s → Shown (wideText w s) n d r new
     wide-put p a b c = rw (← c, ← b, ← a) p
-
-    pub run-line : {a b c : ℕ} → Shown (runText a b c) n d r new → a ≡ getD w s 0 → b ≡ getD w (s + 1) 0 → c ≡ getD w (s + 2) 0 → Shown (runLine w s) n d r new
-    run-line p a b c = rw (← a, ← b, ← c) p
 
     pub escapes-put : {at : ℕ} → Shown (rowText escapes-label 1 w (at + 1)) n d r new → at ≡ escapesAt w s → Shown (escapesText w s) n d r new
     escapes-put p a = rw (← a) p
 
-    pub accept-put : {k : ℕ} {g : Said} → Shown (acceptText w k) n d r new → k ≡ orElse NONE g → g ≡ acceptOf w s → Shown (acceptText w (orElse NONE (acceptOf w s))) n d r new
-    accept-put p a b = rw (← b, ← a) p
-
-    pub start-put : {k : ℕ} {g : Said} → Shown (startText k) n d r new → k ≡ orElse NONE g → g ≡ modeStart w s → Shown (startText (orElse NONE (modeStart w s))) n d r new
-    start-put p a b = rw (← b, ← a) p
-
-    pub end-put : {k : ℕ} {g : Said} → Shown (endTarget k) n d r new → k ≡ orElse 65535 g → g ≡ eofTarget w s → Shown (endTarget (orElse 65535 (eofTarget w s))) n d r new
-    end-put p a b = rw (← b, ← a) p
-
-    pub continuation-put : {k : ℕ} {g : Said} → Shown (endContinuation k) n d r new → k ≡ orElse NONE g → g ≡ eofContinuation w s → Shown (endContinuation (orElse NONE (eofContinuation w s))) n d r new
-    continuation-put p a b = rw (← b, ← a) p
-
     pub run-put : {at : ℕ} → Shown (runLine w at) n d r new → at ≡ runAt w s → Shown (runLine w (runAt w s)) n d r new
     run-put p a = rw (← a) p
+
+  pub escapes-row : (w : List ℕ) (at : ℕ) → Shown (rowText (formed 540 0 0 0) 1 w at) n d r new → Shown (rowText escapes-label 1 w at) n d r new
+  escapes-row w at p = rw is-escapes at p
+
+-- a wide row, or the state that has the same; k is its length
+module _ (w : List ℕ) (s at t : ℕ) {n : ℕ} {d : List ℕ} where
+  pub wide-row : {r : ℕ} {new : List ℕ} → Shown (rowText (formed 507 0 0 0) 0 w at) n d r new → t ≡ s → Shown (wideWith w s at t) n d r new
+  wide-row p h = if-same t s _ _ h (rw is-wide at p)
+
+  pub wide-none : (k : ℕ) → k ≡ getD w at 0 → k ≡ 0 → (t ≡ s → ⊥) → Shown (wideWith w s at t) n d n d
+  wide-none k e i h = if-not-same t s _ _ h (if-same-as (getD w at 0) 0 [] _ k e i (shown-none n d))
+
+  pub wide-shared : (k : ℕ) {r : ℕ} {new : List ℕ} → Shown (formed 517 t 0 0) n d r new → k ≡ getD w at 0 → (k ≡ 0 → ⊥) → (t ≡ s → ⊥) → Shown (wideWith w s at t) n d r new
+  wide-shared k p e i h = if-not-same t s _ _ h (if-not-same-as (getD w at 0) 0 [] _ k e i (rw (is-wide-as t) at p))
 
 -- the row whose length k stands at a place
 module _ (label : List ℕ) (kind : ℕ) (w : List ℕ) (at k : ℕ) {n : ℕ} {d : List ℕ} where
@@ -238,4 +267,4 @@ module _ (label : List ℕ) (kind : ℕ) (w : List ℕ) (at k : ℕ) {n : ℕ} {
   pub row-put : {r q : ℕ} {d₁ d₂ : List ℕ} → Shown label n d r d₁ → Shown (rangesFrom kind w k (at + 1) 0) r d₁ q d₂ → k ≡ getD w at 0 → (k ≡ 0 → ⊥) → Shown (rowText label kind w at) n d q d₂
   row-put p q e h = if-not-same-as (getD w at 0) 0 [] _ k e h (joined-2 p (rw e at q))
 
-pub ruleset parts = (shows, said-put, record-put, wide-put, escapes-put, accept-put, start-put, end-put, continuation-put, run-put, run-line, row-none, row-put)
+pub ruleset parts = (shows, said-put, start-put, end-put, continuation-put, run-line, item-put, refusal-put, table-put, accept-none, accept-put, head-put, ascii-put, wide-put, escapes-put, run-put, escapes-row, wide-row, wide-none, wide-shared, row-none, row-put)

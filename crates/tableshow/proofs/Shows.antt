@@ -118,9 +118,6 @@ module _ {a b : List ℕ} {n : ℕ} {d : List ℕ} {r : ℕ} {d₁ : List ℕ} {
       pub joined-4 : Shown a n d r d₁ → Shown b r d₁ q d₂ → Shown c q d₂ s d₃ → Shown e s d₃ u d₄ → Shown (joined (a ∷ b ∷ c ∷ e ∷ [])) n d u d₄
       joined-4 p q t v = joined-more (b ∷ c ∷ e ∷ []) p (joined-more (c ∷ e ∷ []) q (joined-more (e ∷ []) t (joined-1 v)))
 
-      pub joined-5 : {f : List ℕ} {v : ℕ} {d₅ : List ℕ} → Shown a n d r d₁ → Shown b r d₁ q d₂ → Shown c q d₂ s d₃ → Shown e s d₃ u d₄ → Shown f u d₄ v d₅ → Shown (joined (a ∷ b ∷ c ∷ e ∷ f ∷ [])) n d v d₅
-      joined-5 {f} p q t v x = joined-more (b ∷ c ∷ e ∷ f ∷ []) p (joined-more (c ∷ e ∷ f ∷ []) q (joined-more (e ∷ f ∷ []) t (joined-more (f ∷ []) v (joined-1 x))))
-
 -- By a test
 
 module _ (a b : ℕ) (xs ys : List ℕ) {n : ℕ} {d : List ℕ} {r : ℕ} {new : List ℕ} where
@@ -192,7 +189,7 @@ module _ {xs : List ℕ} {n : ℕ} {old : List ℕ} {m : ℕ} {out : List ℕ} w
 
 -- A text: the bytes that are left, shown from here, give what all of them give
 
-text-open : (t : List ℕ) (i : ℕ) → i < length t → drop i t ≡ (getD t i 0 ∷ []) ++ drop (i + 1) t
+pub text-open : (t : List ℕ) (i : ℕ) → i < length t → drop i t ≡ (getD t i 0 ∷ []) ++ drop (i + 1) t
 text-open t i h = rw (drop-cons t i 0 h, add-one)
 
 module _ (t : List ℕ) (i : ℕ) {xs : List ℕ} {n : ℕ} {old : List ℕ} {m : ℕ} {out : List ℕ} where
@@ -248,4 +245,4 @@ pub ruleset bytes = (needs, byte-in, byte-out)
 
 pub ruleset texts = (needs, coming-start, text-turn, text-done)
 
-pub ruleset shows = (needs, joined-2, joined-3, joined-4, joined-5, if-less, if-not-less, if-same, if-not-same, if-same-as, if-not-same-as, shown-none)
+pub ruleset shows = (needs, joined-2, joined-3, joined-4, if-less, if-not-less, if-same, if-not-same, if-same-as, if-not-same-as, shown-none)

@@ -1,5 +1,6 @@
 pub mod Shown
 pub mod Texts
 pub mod Names
+pub mod Forms
 pub mod Rows
 pub mod Page

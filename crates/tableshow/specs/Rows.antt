@@ -21,7 +21,7 @@ abbrev pub ending : ℕ → List ℕ
 ending p = ifSame p 0 no-items end-line
 
 abbrev pub item : ℕ → ℕ → ℕ → ℕ → ℕ → List ℕ
-item p low high kind t = joined (gap p ∷ range low high ∷ target kind t ∷ [])
+item p low high kind t = joined (joined (gap p ∷ range low high ∷ []) ∷ target kind t ∷ [])
 
 -- The ascii row
 

@@ -1,8 +1,7 @@
-// The parts of a page: the head, a mode, a state, a refusal.
+// The parts of a page: the head, a mode, a state, a refusal. A function `.._form` chooses among the forms of a line.
 ghost use mathlib.Core.Path.{_≡_};
 ghost use mathlib.Core.List.{[], _∷_};
-ghost use Prim.Native.Nat.{_/_, _%_};
-ghost use lib.ListN.{getD};
+ghost use Prim.Native.Nat.{ℕ};
 ghost use Rattle.refusal.specs.Fixed.{NONE as none};
 ghost use Rattle.refusal.specs.Lists.{pick};
 ghost use Rattle.accepts.specs.Accept as accepted;
@@ -10,56 +9,37 @@ ghost use Rattle.accepts.specs.Record as recorded;
 ghost use Rattle.continuations.specs.Continuation as continued;
 ghost use Rattle.modes.specs.Start as started;
 ghost use Rattle.targets.specs.Targets.{eofTarget};
-ghost use Rattle.tableshow.specs.Shown.{Shown, joined};
-ghost use Rattle.tableshow.specs.Names.{target};
-ghost use Rattle.tableshow.specs.Names.{number as decimal};
+ghost use Rattle.tableshow.specs.Shown.{Shown};
+ghost use Rattle.tableshow.specs.Forms.{formed};
 ghost use Rattle.tableshow.specs.Rows.{orElse, runAt};
-ghost use Rattle.tableshow.specs.Texts.{loops-on, end-line, end-label, accept-word};
-ghost use Rattle.tableshow.specs.Page.{flagText, actionsText, recordText, part, recordSaid, acceptText, headText, orExit, untilText, moreRange, rangesText, runText, runLine, endTarget, endContinuation, restText, stateText, startText, modeText, tableText, moreRuleText, ruleText, otherReason, reasonText, refusalText};
+ghost use Rattle.tableshow.specs.Page.{part, recordLine, saidLine, acceptText, headText, untilText, rangesLine, runText, runLine, endTarget, endContinuation, restText, stateText, startLine, modeText, tableText, ruleText, reasonText, refusalText};
+use crate::forms;
 use crate::rows::number_at;
 use crate::rows::number_of;
 use crate::rows::put_ascii;
 use crate::rows::put_escapes;
 use crate::rows::put_wide;
 use crate::rows::run_at;
-use crate::text::put_counted;
-use crate::text::put_line;
-use crate::text::put_number;
-use crate::text::put_range;
-use crate::text::put_symbol;
-use crate::text::put_target;
-use crate::text::put_text;
+use crate::text::put_form;
 use accepts::AcceptRecord;
 use accepts::Accepted;
 use continuations::Continuation;
 use modes::Start;
 use refusal::NONE;
 
-fn put_flag(flag: u32, page: &mut [u8], n: usize) -> usize
-    ensures { λ r. ⌜ Shown (flagText flag) n (now (page .entry)) r (now (page .exit)) ⌝ }
+fn record_form(flag: u32, actions: u32) -> usize
+    ensures { λ r. ⌜ ((k rule : ℕ) → formed r k rule actions ≡ recordLine k rule flag actions) ⌝ }
 {
+    if actions == 0 {
+        if flag == 0 {
+            return forms::ACCEPT;
+        }
+        return forms::ACCEPT_END;
+    }
     if flag == 0 {
-        return n;
+        return forms::ACCEPT_ACTIONS;
     }
-    put_text(b", the end consumed", page, n)
-}
-
-fn put_actions(count: u32, page: &mut [u8], n: usize) -> usize
-    ensures { λ r. ⌜ Shown (actionsText count) n (now (page .entry)) r (now (page .exit)) ⌝ }
-{
-    if count == 0 {
-        return put_text(b"\n", page, n);
-    }
-    put_line(b", actions ", count as u64, page, n)
-}
-
-fn put_record(rule: u32, flag: u32, actions: u32, page: &mut [u8], n: usize) -> usize
-    ensures { λ r. ⌜ Shown (recordText rule flag actions) n (now (page .entry)) r (now (page .exit)) ⌝ }
-{
-    let behind_word = put_text(b", rule ", page, n);
-    let behind_rule = put_number(rule as u64, page, behind_word);
-    let behind_flag = put_flag(flag, page, behind_rule);
-    put_actions(actions, page, behind_flag)
+    forms::ACCEPT_END_ACTIONS
 }
 
 // A flag as a number.
@@ -114,34 +94,23 @@ fn actions_of(found: AcceptRecord) -> u32
     }
 }
 
-fn put_said(found: AcceptRecord, page: &mut [u8], n: usize) -> usize
-    ensures { λ r. ⌜ Shown (recordSaid (recorded.said found)) n (now (page .entry)) r (now (page .exit)) ⌝ }
+fn put_said(accept: u32, found: AcceptRecord, page: &mut [u8], n: usize) -> usize
+    ensures { λ r. ⌜ Shown (saidLine accept (recorded.said found)) n (now (page .entry)) r (now (page .exit)) ⌝ }
 {
     let rule = rule_of(found);
     let flag = bit(flag_of(found));
     let actions = actions_of(found);
-    put_record(rule, flag, actions, page, n)
-}
-
-fn put_accepted(room: &[u32], accept: u32, page: &mut [u8], n: usize) -> usize
-    ensures { λ r. ⌜ Shown (joined (accept-word ∷ decimal accept ∷ recordSaid (recorded.recordOf (now (room .entry)) accept) ∷ [])) n (now (page .entry)) r (now (page .exit)) ⌝ }
-{
-    let behind_word = put_text(b": accept ", page, n);
-    let behind_number = put_number(accept as u64, page, behind_word);
-    put_said(
-        accept_records::accept_record(room, accept),
-        page,
-        behind_number,
-    )
+    let form = record_form(flag, actions);
+    put_form(form, accept as u64, rule as u64, actions as u64, page, n)
 }
 
 fn put_accept(room: &[u32], accept: u32, page: &mut [u8], n: usize) -> usize
     ensures { λ r. ⌜ Shown (acceptText (now (room .entry)) accept) n (now (page .entry)) r (now (page .exit)) ⌝ }
 {
     if accept == NONE {
-        return put_text(b", no accept\n", page, n);
+        return put_form(forms::NO_ACCEPT, 0, 0, 0, page, n);
     }
-    put_accepted(room, accept, page, n)
+    put_said(accept, accept_records::accept_record(room, accept), page, n)
 }
 
 // An accept's number; NONE where there is none.
@@ -159,86 +128,54 @@ fn put_head(room: &[u32], state: u16, page: &mut [u8], n: usize) -> usize
     ensures { λ r. ⌜ Shown (headText (now (room .entry)) state) n (now (page .entry)) r (now (page .exit)) ⌝ }
 {
     let accept = accept_number(accepts::accept(room, state));
-    let behind_word = put_text(b"\nstate ", page, n);
-    let behind_number = put_number(state as u64, page, behind_word);
-    put_accept(room, accept, page, behind_number)
+    let behind_state = put_form(forms::STATE, state as u64, 0, 0, page, n);
+    put_accept(room, accept, page, behind_state)
 }
 
-fn put_or(kind: u32, needed: u32, exit: u32, page: &mut [u8], n: usize) -> usize
-    ensures { λ r. ⌜ Shown (orExit kind needed exit) n (now (page .entry)) r (now (page .exit)) ⌝ }
+// The exits of a run: one, two or three.
+fn until_form(run: u32) -> usize
+    ensures { λ r. ⌜ ((b c : ℕ) → formed r run b c ≡ untilText run) ⌝ }
 {
-    if kind < needed {
-        return n;
+    let kind = run % 256;
+    if kind < 3 {
+        return forms::UNTIL_1;
     }
-    let m = put_text(b" or ", page, n);
-    put_symbol(exit, page, m)
-}
-
-fn put_until(run: u32, page: &mut [u8], n: usize) -> usize
-    ensures { λ r. ⌜ Shown (untilText run) n (now (page .entry)) r (now (page .exit)) ⌝ }
-{
-    let behind_word = put_text(b"  loops    until ", page, n);
-    let behind_first = put_symbol(run / 256 % 256, page, behind_word);
-    let behind_second = put_or(run % 256, 3, run / 65536 % 256, page, behind_first);
-    let behind_third = put_or(run % 256, 4, run / 16777216, page, behind_second);
-    put_text(b"\n", page, behind_third)
-}
-
-fn put_more(count: u32, needed: u32, low: u32, high: u32, page: &mut [u8], n: usize) -> usize
-    ensures { λ r. ⌜ Shown (moreRange count needed low high) n (now (page .entry)) r (now (page .exit)) ⌝ }
-{
-    if count < needed {
-        return n;
+    if kind < 4 {
+        return forms::UNTIL_2;
     }
-    let m = put_text(b", ", page, n);
-    put_range(low, high, page, m)
+    forms::UNTIL_3
 }
 
-fn put_run_ranges(count: u32, first: u32, second: u32, page: &mut [u8], n: usize) -> usize
-    ensures { λ r. ⌜ Shown (rangesText count first second) n (now (page .entry)) r (now (page .exit)) ⌝ }
+// The ranges of a run: one to four.
+fn ranges_form(count: u32) -> usize
+    ensures { λ r. ⌜ ((a b c : ℕ) → formed r a b c ≡ rangesLine count b c) ⌝ }
 {
-    let behind_1 = put_range(first % 256, first / 256 % 256, page, n);
-    let behind_2 = put_more(
-        count,
-        2,
-        first / 65536 % 256,
-        first / 16777216,
-        page,
-        behind_1,
-    );
-    let behind_3 = put_more(count, 3, second % 256, second / 256 % 256, page, behind_2);
-    let behind_4 = put_more(
-        count,
-        4,
-        second / 65536 % 256,
-        second / 16777216,
-        page,
-        behind_3,
-    );
-    put_text(b"\n", page, behind_4)
+    if count < 2 {
+        return forms::ON_1;
+    }
+    if count < 3 {
+        return forms::ON_2;
+    }
+    if count < 4 {
+        return forms::ON_3;
+    }
+    forms::ON_4
 }
 
-fn put_ranges_line(count: u32, first: u32, second: u32, page: &mut [u8], n: usize) -> usize
-    ensures { λ r. ⌜ Shown (joined (loops-on ∷ rangesText count first second ∷ [])) n (now (page .entry)) r (now (page .exit)) ⌝ }
-{
-    let m = put_text(b"  loops    on ", page, n);
-    put_run_ranges(count, first, second, page, m)
-}
-
-fn put_run(run: u32, first: u32, second: u32, page: &mut [u8], n: usize) -> usize
-    ensures { λ r. ⌜ Shown (runText run first second) n (now (page .entry)) r (now (page .exit)) ⌝ }
+fn run_form(run: u32) -> usize
+    ensures { λ r. ⌜ ((b c : ℕ) → formed r run b c ≡ runText run b c) ⌝ }
 {
     let kind = run % 256;
     if kind == 0 {
-        return n;
+        return forms::NOTHING;
     }
     if kind == 1 {
-        return put_text(b"  loops    on every symbol\n", page, n);
+        return forms::LOOPS_ALWAYS;
     }
     if kind == 5 {
-        return put_ranges_line(run / 256 % 256, first, second, page, n);
+        return ranges_form(run / 256 % 256);
     }
-    put_until(run, page, n)
+    until_form(run)
 }
 
 // The run whose words stand at a place.
@@ -248,33 +185,38 @@ fn put_run_at(room: &[u32], at: u32, page: &mut [u8], n: usize) -> usize
     let run = number_at(room, at as usize);
     let first = number_at(room, (at as usize) + 1);
     let second = number_at(room, (at as usize) + 2);
-    put_run(run, first, second, page, n)
+    put_form(
+        run_form(run),
+        run as u64,
+        first as u64,
+        second as u64,
+        page,
+        n,
+    )
 }
 
-fn put_end(kind: u32, to: u32, page: &mut [u8], n: usize) -> usize
-    ensures { λ r. ⌜ Shown (joined (end-label ∷ target kind to ∷ end-line ∷ [])) n (now (page .entry)) r (now (page .exit)) ⌝ }
+fn put_run_of(room: &[u32], state: u16, page: &mut [u8], n: usize) -> usize
+    ensures { λ r. ⌜ Shown (runLine (now (room .entry)) (runAt (now (room .entry)) state)) n (now (page .entry)) r (now (page .exit)) ⌝ }
 {
-    let behind_label = put_text(b"  at end  ", page, n);
-    let behind_target = put_target(kind, to, page, behind_label);
-    put_text(b"\n", page, behind_target)
+    let at = run_at(room, state);
+    put_run_at(room, at, page, n)
 }
 
-fn put_end_target(to: u32, page: &mut [u8], n: usize) -> usize
-    ensures { λ r. ⌜ Shown (endTarget to) n (now (page .entry)) r (now (page .exit)) ⌝ }
+fn end_form(to: u32) -> usize
+    ensures { λ r. ⌜ formed r to 0 0 ≡ endTarget to ⌝ }
 {
-    if to == 65535 {
-        return n;
+    match to {
+        65535 => forms::NOTHING,
+        65534 => forms::END_ESCAPE,
+        _ => forms::END_TO,
     }
-    put_end(0, to, page, n)
 }
 
-fn put_end_continuation(to: u32, page: &mut [u8], n: usize) -> usize
-    ensures { λ r. ⌜ Shown (endContinuation to) n (now (page .entry)) r (now (page .exit)) ⌝ }
+fn put_end_of(room: &[u32], state: u16, page: &mut [u8], n: usize) -> usize
+    ensures { λ r. ⌜ Shown (endTarget (orElse 65535 (eofTarget (now (room .entry)) state))) n (now (page .entry)) r (now (page .exit)) ⌝ }
 {
-    if to == NONE {
-        return n;
-    }
-    put_end(1, to, page, n)
+    let to = number_of(char_targets::eof_target(room, state));
+    put_form(end_form(to), to as u64, 0, 0, page, n)
 }
 
 // A continuation's number; NONE where there is none.
@@ -288,25 +230,20 @@ fn continuation_number(continuation: Continuation) -> u32
     }
 }
 
-fn put_end_of(room: &[u32], state: u16, page: &mut [u8], n: usize) -> usize
-    ensures { λ r. ⌜ Shown (endTarget (orElse 65535 (eofTarget (now (room .entry)) state))) n (now (page .entry)) r (now (page .exit)) ⌝ }
+fn continuation_form(to: u32) -> usize
+    ensures { λ r. ⌜ formed r to 0 0 ≡ endContinuation to ⌝ }
 {
-    let to = number_of(char_targets::eof_target(room, state));
-    put_end_target(to, page, n)
+    if to == NONE {
+        return forms::NOTHING;
+    }
+    forms::END_CONTINUATION
 }
 
 fn put_continuation_of(room: &[u32], state: u16, page: &mut [u8], n: usize) -> usize
     ensures { λ r. ⌜ Shown (endContinuation (orElse none (continued.eofContinuation (now (room .entry)) state))) n (now (page .entry)) r (now (page .exit)) ⌝ }
 {
     let to = continuation_number(continuations::eof_continuation(room, state));
-    put_end_continuation(to, page, n)
-}
-
-fn put_run_of(room: &[u32], state: u16, page: &mut [u8], n: usize) -> usize
-    ensures { λ r. ⌜ Shown (runLine (now (room .entry)) (runAt (now (room .entry)) state)) n (now (page .entry)) r (now (page .exit)) ⌝ }
-{
-    let at = run_at(room, state);
-    put_run_at(room, at, page, n)
+    put_form(continuation_form(to), to as u64, 0, 0, page, n)
 }
 
 // What is behind the ascii row.
@@ -340,13 +277,13 @@ fn start_number(start: Start) -> u32
     }
 }
 
-fn put_start(start: u32, page: &mut [u8], n: usize) -> usize
-    ensures { λ r. ⌜ Shown (startText start) n (now (page .entry)) r (now (page .exit)) ⌝ }
+fn start_form(start: u32) -> usize
+    ensures { λ r. ⌜ ((mode : ℕ) → formed r mode start 0 ≡ startLine mode start) ⌝ }
 {
     if start == NONE {
-        return put_text(b" is not compiled\n", page, n);
+        return forms::NOT_COMPILED;
     }
-    put_line(b" starts at state ", start as u64, page, n)
+    forms::STARTS_AT
 }
 
 // The line of a mode.
@@ -354,128 +291,58 @@ pub(crate) fn put_mode(room: &[u32], mode: u32, page: &mut [u8], n: usize) -> us
     ensures { λ r. ⌜ Shown (modeText (now (room .entry)) mode) n (now (page .entry)) r (now (page .exit)) ⌝ }
 {
     let start = start_number(modes::mode_start(room, mode));
-    let behind_word = put_text(b"mode ", page, n);
-    let behind_number = put_number(mode as u64, page, behind_word);
-    put_start(start, page, behind_number)
+    put_form(start_form(start), mode as u64, start as u64, 0, page, n)
 }
 
 // The line of the table.
 pub(crate) fn put_table(modes: u32, states: u32, words: usize, page: &mut [u8], n: usize) -> usize
     ensures { λ r. ⌜ Shown (tableText modes states words) n (now (page .entry)) r (now (page .exit)) ⌝ }
 {
-    let behind_modes = put_counted(b"table: modes ", modes as u64, page, n);
-    let behind_states = put_counted(b", states ", states as u64, page, behind_modes);
-    put_line(b", words ", words as u64, page, behind_states)
-}
-
-fn put_more_rules(rule: usize, page: &mut [u8], n: usize) -> usize
-    ensures { λ r. ⌜ Shown (moreRuleText rule) n (now (page .entry)) r (now (page .exit)) ⌝ }
-{
-    if rule == 5 {
-        return put_text(
-            b": INDEX, an ascii row has a target that is not there\n",
-            page,
-            n,
-        );
-    }
-    if rule == 6 {
-        return put_text(
-            b": INDEX, a wide row is out of order, or has a target that is not there\n",
-            page,
-            n,
-        );
-    }
-    if rule == 7 {
-        return put_text(
-            b": INDEX, there are not as many escape rows as states\n",
-            page,
-            n,
-        );
-    }
-    if rule == 8 {
-        return put_text(
-            b": INDEX, an escape row is out of order, or names a continuation that is not there\n",
-            page,
-            n,
-        );
-    }
-    put_text(
-        b": INDEX, a context or a config refers to a context that it must not\n",
+    put_form(
+        forms::TABLE,
+        modes as u64,
+        states as u64,
+        words as u64,
         page,
         n,
     )
 }
 
 // The index rule that is broken.
-fn put_rule(rule: usize, page: &mut [u8], n: usize) -> usize
-    ensures { λ r. ⌜ Shown (ruleText rule) n (now (page .entry)) r (now (page .exit)) ⌝ }
+fn rule_form(rule: usize) -> usize
+    ensures { λ r. ⌜ formed r 0 0 0 ≡ ruleText rule ⌝ }
 {
-    if rule == 1 {
-        return put_text(b": INDEX, a mode starts at what is no state\n", page, n);
+    match rule {
+        1 => forms::RULE_1,
+        2 => forms::RULE_2,
+        3 => forms::RULE_3,
+        4 => forms::RULE_4,
+        5 => forms::RULE_5,
+        6 => forms::RULE_6,
+        7 => forms::RULE_7,
+        8 => forms::RULE_8,
+        _ => forms::RULE_9,
     }
-    if rule == 2 {
-        return put_text(
-            b": INDEX, a state names a row, a target or an accept that is not there\n",
-            page,
-            n,
-        );
-    }
-    if rule == 3 {
-        return put_text(b": INDEX, there are not as many runs as states\n", page, n);
-    }
-    if rule == 4 {
-        return put_text(b": INDEX, a run is not that of its state's row\n", page, n);
-    }
-    put_more_rules(rule, page, n)
 }
 
-fn put_other_reason(number: u32, place: usize, page: &mut [u8], n: usize) -> usize
-    ensures { λ r. ⌜ Shown (otherReason number place) n (now (page .entry)) r (now (page .exit)) ⌝ }
+fn reason_form(number: u32, place: usize) -> usize
+    ensures { λ r. ⌜ formed r 0 0 0 ≡ reasonText number place ⌝ }
 {
-    if number == 4 {
-        return put_text(b": LIMIT, there are more than 8,192 words\n", page, n);
+    match number {
+        1 => forms::SHORT,
+        2 => forms::TAG,
+        3 => forms::FIELD,
+        4 => forms::LIMIT,
+        5 => forms::LEFT,
+        6 => rule_form(place),
+        _ => forms::OTHER,
     }
-    if number == 5 {
-        return put_text(b": LEFT, words remain behind the last section\n", page, n);
-    }
-    if number == 6 {
-        return put_rule(place, page, n);
-    }
-    put_text(b": no answer of decoding\n", page, n)
-}
-
-fn put_reason(number: u32, place: usize, page: &mut [u8], n: usize) -> usize
-    ensures { λ r. ⌜ Shown (reasonText number place) n (now (page .entry)) r (now (page .exit)) ⌝ }
-{
-    if number == 1 {
-        return put_text(
-            b": SHORT, the words end inside a field or record\n",
-            page,
-            n,
-        );
-    }
-    if number == 2 {
-        return put_text(
-            b": TAG, the first word is not the tag of a table\n",
-            page,
-            n,
-        );
-    }
-    if number == 3 {
-        return put_text(
-            b": FIELD, the word here is one that its field forbids\n",
-            page,
-            n,
-        );
-    }
-    put_other_reason(number, place, page, n)
 }
 
 // The line of a refusal.
 pub(crate) fn put_refusal(number: u32, place: usize, page: &mut [u8], n: usize) -> usize
     ensures { λ r. ⌜ Shown (refusalText number place) n (now (page .entry)) r (now (page .exit)) ⌝ }
 {
-    let behind_number = put_counted(b"refused: ", number as u64, page, n);
-    let behind_place = put_counted(b" at ", place as u64, page, behind_number);
-    put_reason(number, place, page, behind_place)
+    let behind_place = put_form(forms::REFUSED, number as u64, place as u64, 0, page, n);
+    put_form(reason_form(number, place), 0, 0, 0, page, behind_place)
 }

@@ -1,25 +1,26 @@
 // The rows of a state on a page. The room may be of any length and hold any numbers: a number that is not there reads as 0.
 ghost use mathlib.Core.Path.{_≡_};
-ghost use Prim.Native.Nat.{_+_, _*_, _^_, _<_, _≤_};
+ghost use mathlib.Core.List.{[], _∷_};
+ghost use Prim.Native.Nat.{ℕ, _+_, _*_, _^_, _<_};
 ghost use lib.ListN.{getD};
 ghost use Rattle.targets.specs.Targets.{said};
-ghost use Rattle.tableshow.specs.Shown.{Shown};
+ghost use Rattle.tableshow.specs.Shown.{Shown, joined};
+ghost use Rattle.tableshow.specs.Names.{range, target};
 ghost use Rattle.tableshow.specs.Texts.{escapes-label};
-ghost use Rattle.tableshow.specs.Rows.{gap, after, ending, item, orElse, targetOn, edge, lowAfter, itemsAfter, edgeAt, lowAt, itemsAt, asciiFrom, asciiText, rangesFrom, rowText, listed, runAt, wideAt, escapesAt, wideRow, firstWith, sharedText, wideWith, wideText, escapesText};
-use crate::text::put_line;
-use crate::text::put_range;
-use crate::text::put_target;
-use crate::text::put_text;
+ghost use Rattle.tableshow.specs.Forms.{formed};
+ghost use Rattle.tableshow.specs.Rows.{gap, after, ending, item, orElse, targetOn, edge, lowAfter, itemsAfter, asciiFrom, asciiText, rangesFrom, rowText, listed, runAt, wideAt, escapesAt, wideRow, firstWith, wideWith, wideText, escapesText};
+use crate::forms;
+use crate::text::put_form;
 use targets::Target;
 
-// What parts an item from the one before: `items` says how many stand on the line.
-fn put_gap(items: u32, page: &mut [u8], n: usize) -> usize
-    ensures { λ r. ⌜ Shown (gap items) n (now (page .entry)) r (now (page .exit)) ⌝ }
+// A range behind what parts it from the one before: `items` says how many stand on the line.
+fn gap_form(items: u32) -> usize
+    ensures { λ r. ⌜ ((low high : ℕ) → formed r low high 0 ≡ joined (gap items ∷ range low high ∷ [])) ⌝ }
 {
     if items == 3 {
-        return put_text(b"\n           ", page, n);
+        return forms::NEXT_LINE;
     }
-    put_text(b"  ", page, n)
+    forms::SAME_LINE
 }
 
 fn after(items: u32) -> u32
@@ -31,22 +32,35 @@ fn after(items: u32) -> u32
     1
 }
 
-fn put_ending(items: u32, page: &mut [u8], n: usize) -> usize
-    ensures { λ r. ⌜ Shown (ending items) n (now (page .entry)) r (now (page .exit)) ⌝ }
+fn ending_form(items: u32) -> usize
+    ensures { λ r. ⌜ formed r 0 0 0 ≡ ending items ⌝ }
 {
     if items == 0 {
-        return put_text(b"  none\n", page, n);
+        return forms::NO_ITEMS;
     }
-    put_text(b"\n", page, n)
+    forms::END_LINE
+}
+
+// Where an edge leads: a target (kind 0) or a continuation (kind 1).
+fn target_form(kind: u32, to: u32) -> usize
+    ensures { λ r. ⌜ formed r to 0 0 ≡ target kind to ⌝ }
+{
+    if kind == 1 {
+        return forms::TO_CONTINUATION;
+    }
+    match to {
+        65534 => forms::TO_ESCAPE,
+        65535 => forms::TO_DEAD,
+        _ => forms::TO,
+    }
 }
 
 // A range, and where it leads.
 fn put_item(items: u32, low: u32, high: u32, kind: u32, to: u32, page: &mut [u8], n: usize) -> usize
     ensures { λ r. ⌜ Shown (item items low high kind to) n (now (page .entry)) r (now (page .exit)) ⌝ }
 {
-    let behind_gap = put_gap(items, page, n);
-    let behind_range = put_range(low, high, page, behind_gap);
-    put_target(kind, to, page, behind_range)
+    let behind_range = put_form(gap_form(items), low as u64, high as u64, 0, page, n);
+    put_form(target_form(kind, to), to as u64, 0, 0, page, behind_range)
 }
 
 // A target by its number; dead where there is none.
@@ -112,67 +126,34 @@ fn items_after(to: u32, next: u32, items: u32) -> u32
     after(items)
 }
 
-fn put_edge_at(
-    room: &[u32],
-    state: u16,
-    low: u32,
-    symbol: u32,
-    items: u32,
-    page: &mut [u8],
-    n: usize,
-) -> usize
-    requires { ⌜ symbol < 128 ⌝ }
-    ensures { λ r. ⌜ Shown (edgeAt (now (room .entry)) state low symbol items) n (now (page .entry)) r (now (page .exit)) ⌝ }
-{
-    let to = target_on(room, state, symbol);
-    let next = target_on(room, state, symbol + 1);
-    put_edge(to, next, low, symbol, items, page, n)
-}
-
-fn low_at(room: &[u32], state: u16, low: u32, symbol: u32) -> u32
-    requires { ⌜ symbol < 128 ⌝ }
-    ensures { λ r. ⌜ r ≡ lowAt (now (room .entry)) state low symbol ⌝ }
-{
-    let to = target_on(room, state, symbol);
-    let next = target_on(room, state, symbol + 1);
-    low_after(to, next, low, symbol + 1)
-}
-
-fn items_at(room: &[u32], state: u16, symbol: u32, items: u32) -> u32
-    requires { ⌜ symbol < 128 ⌝ }
-    ensures { λ r. ⌜ r ≡ itemsAt (now (room .entry)) state symbol items ⌝ }
-{
-    let to = target_on(room, state, symbol);
-    let next = target_on(room, state, symbol + 1);
-    items_after(to, next, items)
-}
-
+// So many symbols of the ascii row.
 fn put_edges(room: &[u32], state: u16, count: u32, page: &mut [u8], n: usize) -> usize
-    requires { ⌜ count ≤ 128 ⌝ }
     ensures { λ r. ⌜ Shown (asciiFrom (now (room .entry)) state count 0 0 0) n (now (page .entry)) r (now (page .exit)) ⌝ }
 {
     let mut left = count;
     let mut symbol = 0u32;
     let mut low = 0u32;
     let mut items = 0u32;
+    let mut to = target_on(room, state, 0);
     let mut m = n;
     while 0 < left {
-        let next_low = low_at(room, state, low, symbol);
-        let next_items = items_at(room, state, symbol, items);
-        m = put_edge_at(room, state, low, symbol, items, page, m);
-        low = next_low;
-        items = next_items;
-        symbol += 1;
+        let above = symbol + 1;
+        let next = target_on(room, state, above);
+        m = put_edge(to, next, low, symbol, items, page, m);
+        low = low_after(to, next, low, above);
+        items = items_after(to, next, items);
+        to = next;
+        symbol = above;
         left -= 1;
     }
-    put_ending(items, page, m)
+    put_form(ending_form(items), 0, 0, 0, page, m)
 }
 
 // The ascii row of a state.
 pub(crate) fn put_ascii(room: &[u32], state: u16, page: &mut [u8], n: usize) -> usize
     ensures { λ r. ⌜ Shown (asciiText (now (room .entry)) state) n (now (page .entry)) r (now (page .exit)) ⌝ }
 {
-    let m = put_text(b"  ascii  ", page, n);
+    let m = put_form(forms::ASCII, 0, 0, 0, page, n);
     put_edges(room, state, 128, page, m)
 }
 
@@ -204,19 +185,19 @@ fn put_ranges(kind: u32, room: &[u32], count: u32, at: usize, page: &mut [u8], n
         here += 3;
         left -= 1;
     }
-    put_ending(items, page, m)
+    put_form(ending_form(items), 0, 0, 0, page, m)
 }
 
 // The row whose length stands at a place.
-fn put_row(label: &[u8], kind: u32, room: &[u32], at: usize, page: &mut [u8], n: usize) -> usize
+fn put_row(label: usize, kind: u32, room: &[u32], at: usize, page: &mut [u8], n: usize) -> usize
     requires { ⌜ at < 2 ^ 40 ⌝ }
-    ensures { λ r. ⌜ Shown (rowText (now (label .entry)) kind (now (room .entry)) at) n (now (page .entry)) r (now (page .exit)) ⌝ }
+    ensures { λ r. ⌜ Shown (rowText (formed label 0 0 0) kind (now (room .entry)) at) n (now (page .entry)) r (now (page .exit)) ⌝ }
 {
     let count = number_at(room, at);
     if count == 0 {
         return n;
     }
-    let m = put_text(label, page, n);
+    let m = put_form(label, 0, 0, 0, page, n);
     put_ranges(kind, room, count, at, page, m)
 }
 
@@ -286,22 +267,16 @@ fn first_with(room: &[u32], row: u32, state: u16) -> u16
     t
 }
 
-fn put_shared(room: &[u32], at: u32, first: u16, page: &mut [u8], n: usize) -> usize
-    ensures { λ r. ⌜ Shown (sharedText (now (room .entry)) at first) n (now (page .entry)) r (now (page .exit)) ⌝ }
-{
-    if count_at(room, at) == 0 {
-        return n;
-    }
-    put_line(b"  wide     as state ", first as u64, page, n)
-}
-
 fn put_wide_at(room: &[u32], state: u16, at: u32, first: u16, page: &mut [u8], n: usize) -> usize
     ensures { λ r. ⌜ Shown (wideWith (now (room .entry)) state at first) n (now (page .entry)) r (now (page .exit)) ⌝ }
 {
     if first == state {
-        return put_row(b"  wide   ", 0, room, at as usize, page, n);
+        return put_row(forms::WIDE, 0, room, at as usize, page, n);
     }
-    put_shared(room, at, first, page, n)
+    if count_at(room, at) == 0 {
+        return n;
+    }
+    put_form(forms::WIDE_AS, first as u64, 0, 0, page, n)
 }
 
 // The wide row of a state, or the state before it that has the same.
@@ -317,7 +292,7 @@ pub(crate) fn put_wide(room: &[u32], state: u16, page: &mut [u8], n: usize) -> u
 fn put_escapes_at(room: &[u32], at: u32, page: &mut [u8], n: usize) -> usize
     ensures { λ r. ⌜ Shown (rowText escapes-label 1 (now (room .entry)) (at + 1)) n (now (page .entry)) r (now (page .exit)) ⌝ }
 {
-    put_row(b"  escapes", 1, room, (at as usize) + 1, page, n)
+    put_row(forms::ESCAPES, 1, room, (at as usize) + 1, page, n)
 }
 
 // The escape row of a state.

@@ -1,11 +1,12 @@
-// Bytes, texts, numbers, symbols, ranges and targets on a page. Each function writes from place `n` of the page on, cuts off what does not
-// fit, and answers the place behind what it wrote.
+// Bytes, numbers, symbols, ranges and forms on a page. Each function writes from place `n` of the page on, cuts off what does not fit, and
+// answers the place behind what it wrote.
 ghost use mathlib.Core.Path.{_≡_};
 ghost use mathlib.Core.List.{[], _∷_};
-ghost use Prim.Native.Nat.{_/_};
-ghost use Rattle.tableshow.specs.Shown.{Shown, joined};
-ghost use Rattle.tableshow.specs.Names.{number, hexDigit, two, four, hexed, blank, symbol, front, point, range, target};
-ghost use Rattle.tableshow.specs.Texts.{code-point, dots, end-line};
+ghost use Rattle.tableshow.specs.Shown.{Shown};
+ghost use Rattle.tableshow.specs.Names.{number, hexDigit, blank, symbol, point, range};
+ghost use Rattle.tableshow.specs.Forms.{digitIn, glyphOf, numberIn, exitIn, lowIn, highIn, piece, drawn, formed};
+use crate::forms;
+use crate::forms::form_byte;
 
 fn put_byte(byte: u8, page: &mut [u8], n: usize) -> usize
     ensures { λ r. ⌜ Shown (byte ∷ []) n (now (page .entry)) r (now (page .exit)) ⌝ }
@@ -17,8 +18,7 @@ fn put_byte(byte: u8, page: &mut [u8], n: usize) -> usize
     n
 }
 
-// A text, as it is.
-pub(crate) fn put_text(text: &[u8], page: &mut [u8], n: usize) -> usize
+fn put_text(text: &[u8], page: &mut [u8], n: usize) -> usize
     ensures { λ r. ⌜ Shown (now (text .entry)) n (now (page .entry)) r (now (page .exit)) ⌝ }
 {
     let mut i = 0;
@@ -31,7 +31,7 @@ pub(crate) fn put_text(text: &[u8], page: &mut [u8], n: usize) -> usize
 }
 
 // A number in decimal.
-pub(crate) fn put_number(x: u64, page: &mut [u8], n: usize) -> usize
+fn put_number(x: u64, page: &mut [u8], n: usize) -> usize
     ensures { λ r. ⌜ Shown (number x) n (now (page .entry)) r (now (page .exit)) ⌝ }
 {
     let mut digits = [0u8; 20];
@@ -40,7 +40,7 @@ pub(crate) fn put_number(x: u64, page: &mut [u8], n: usize) -> usize
 }
 
 // The last hexadecimal digit of a number.
-fn hex_digit(x: u32) -> u8
+fn hex_digit(x: u64) -> u8
     ensures { λ r. ⌜ r ≡ hexDigit x ⌝ }
 {
     let digit = (x % 16) as u8;
@@ -50,145 +50,179 @@ fn hex_digit(x: u32) -> u8
     55 + digit
 }
 
-fn put_two(x: u32, page: &mut [u8], n: usize) -> usize
-    ensures { λ r. ⌜ Shown (two x) n (now (page .entry)) r (now (page .exit)) ⌝ }
+// The number whose last digit a byte of a form stands for.
+fn digit_in(byte: u8, x: u64) -> u64
+    ensures { λ r. ⌜ r ≡ digitIn byte x ⌝ }
 {
-    put_text(&[hex_digit(x / 16), hex_digit(x)], page, n)
+    match byte {
+        129 => x,
+        130 => x / 16,
+        131 => x / 256,
+        132 => x / 4096,
+        133 => x / 65536,
+        134 => x / 65536 / 16,
+        135 => x / 65536 / 256,
+        _ => x / 65536 / 4096,
+    }
 }
 
-fn put_four(x: u32, page: &mut [u8], n: usize) -> usize
-    ensures { λ r. ⌜ Shown (four x) n (now (page .entry)) r (now (page .exit)) ⌝ }
+// What a byte of a symbol's form stands for.
+fn glyph_of(byte: u8, x: u64) -> u8
+    ensures { λ r. ⌜ r ≡ glyphOf byte x ⌝ }
 {
-    put_text(
-        &[
-            hex_digit(x / 4096),
-            hex_digit(x / 256),
-            hex_digit(x / 16),
-            hex_digit(x),
-        ],
-        page,
-        n,
-    )
+    if byte < 128 {
+        return byte;
+    }
+    if byte == 128 {
+        return (x % 256) as u8;
+    }
+    hex_digit(digit_in(byte, x))
 }
 
-fn put_hexed(x: u32, page: &mut [u8], n: usize) -> usize
-    ensures { λ r. ⌜ Shown (hexed x) n (now (page .entry)) r (now (page .exit)) ⌝ }
+// A symbol by its form.
+fn put_drawn(form: usize, x: u64, page: &mut [u8], n: usize) -> usize
+    ensures { λ r. ⌜ Shown (drawn form x) n (now (page .entry)) r (now (page .exit)) ⌝ }
 {
-    let m = put_text(b"0x", page, n);
-    put_two(x, page, m)
+    let mut i = form;
+    let mut byte = form_byte(i);
+    let mut m = n;
+    while 0 < byte {
+        m = put_byte(glyph_of(byte, x), page, m);
+        i += 1;
+        byte = form_byte(i);
+    }
+    m
 }
 
-fn put_blank(x: u32, page: &mut [u8], n: usize) -> usize
-    ensures { λ r. ⌜ Shown (blank x) n (now (page .entry)) r (now (page .exit)) ⌝ }
+fn blank_form(x: u64) -> usize
+    ensures { λ r. ⌜ drawn r x ≡ blank x ⌝ }
 {
-    if x == 32 {
-        return put_text(b"space", page, n);
+    match x {
+        32 => forms::SPACE,
+        9 => forms::TAB,
+        10 => forms::NEWLINE,
+        13 => forms::RETURN,
+        _ => forms::HEXED,
     }
-    if x == 9 {
-        return put_text(b"\\t", page, n);
-    }
-    if x == 10 {
-        return put_text(b"\\n", page, n);
-    }
-    if x == 13 {
-        return put_text(b"\\r", page, n);
-    }
-    put_hexed(x, page, n)
 }
 
-// An ASCII symbol.
-pub(crate) fn put_symbol(x: u32, page: &mut [u8], n: usize) -> usize
-    ensures { λ r. ⌜ Shown (symbol x) n (now (page .entry)) r (now (page .exit)) ⌝ }
+// The form of an ASCII symbol.
+fn symbol_form(x: u64) -> usize
+    ensures { λ r. ⌜ drawn r x ≡ symbol x ⌝ }
 {
     if x < 33 {
-        return put_blank(x, page, n);
+        return blank_form(x);
     }
     if x < 127 {
-        return put_text(&[39, x as u8, 39], page, n);
+        return forms::QUOTED;
     }
-    put_hexed(x, page, n)
+    forms::HEXED
 }
 
-fn put_front(x: u32, page: &mut [u8], n: usize) -> usize
-    ensures { λ r. ⌜ Shown (front x) n (now (page .entry)) r (now (page .exit)) ⌝ }
-{
-    if x < 1 {
-        return n;
-    }
-    if x < 16 {
-        return put_byte(hex_digit(x), page, n);
-    }
-    if x < 256 {
-        return put_two(x, page, n);
-    }
-    put_four(x, page, n)
-}
-
-// A code point past ASCII.
-fn put_wide(x: u32, page: &mut [u8], n: usize) -> usize
-    ensures { λ r. ⌜ Shown (joined (code-point ∷ front (x / 65536) ∷ four x ∷ [])) n (now (page .entry)) r (now (page .exit)) ⌝ }
-{
-    let behind_sign = put_text(b"U+", page, n);
-    let behind_front = put_front(x / 65536, page, behind_sign);
-    put_four(x, page, behind_front)
-}
-
-fn put_point(x: u32, page: &mut [u8], n: usize) -> usize
-    ensures { λ r. ⌜ Shown (point x) n (now (page .entry)) r (now (page .exit)) ⌝ }
+// The form of a code point.
+fn point_form(x: u64) -> usize
+    ensures { λ r. ⌜ drawn r x ≡ point x ⌝ }
 {
     if x < 128 {
-        return put_symbol(x, page, n);
+        return symbol_form(x);
     }
-    put_wide(x, page, n)
-}
-
-fn put_both(low: u32, high: u32, page: &mut [u8], n: usize) -> usize
-    ensures { λ r. ⌜ Shown (joined (point low ∷ dots ∷ point high ∷ [])) n (now (page .entry)) r (now (page .exit)) ⌝ }
-{
-    let behind_low = put_point(low, page, n);
-    let behind_dots = put_text(b"..", page, behind_low);
-    put_point(high, page, behind_dots)
+    let front = x / 65536;
+    if front < 1 {
+        return forms::WIDE_4;
+    }
+    if front < 16 {
+        return forms::WIDE_5;
+    }
+    if front < 256 {
+        return forms::WIDE_6;
+    }
+    forms::WIDE_8
 }
 
 // A range of code points; one of a single point by that alone.
-pub(crate) fn put_range(low: u32, high: u32, page: &mut [u8], n: usize) -> usize
+fn put_range(low: u64, high: u64, page: &mut [u8], n: usize) -> usize
     ensures { λ r. ⌜ Shown (range low high) n (now (page .entry)) r (now (page .exit)) ⌝ }
 {
+    let behind_low = put_drawn(point_form(low), low, page, n);
     if low == high {
-        return put_point(low, page, n);
+        return behind_low;
     }
-    put_both(low, high, page, n)
+    let behind_dots = put_drawn(forms::DOTS, 0, page, behind_low);
+    put_drawn(point_form(high), high, page, behind_dots)
 }
 
-// A word and a number.
-pub(crate) fn put_counted(word: &[u8], x: u64, page: &mut [u8], n: usize) -> usize
-    ensures { λ r. ⌜ Shown (joined (now (word .entry) ∷ number x ∷ [])) n (now (page .entry)) r (now (page .exit)) ⌝ }
+// What a byte of a line's form stands for: a number, an exit of a run, or the ends of a range.
+fn number_in(byte: u8, a: u64, b: u64, c: u64) -> u64
+    ensures { λ r. ⌜ r ≡ numberIn byte a b c ⌝ }
 {
-    let behind_word = put_text(word, page, n);
-    put_number(x, page, behind_word)
+    match byte {
+        128 => a,
+        129 => b,
+        _ => c,
+    }
 }
 
-// Where an edge leads: a target (kind 0) or a continuation (kind 1).
-pub(crate) fn put_target(kind: u32, t: u32, page: &mut [u8], n: usize) -> usize
-    ensures { λ r. ⌜ Shown (target kind t) n (now (page .entry)) r (now (page .exit)) ⌝ }
+fn exit_in(byte: u8, a: u64) -> u64
+    ensures { λ r. ⌜ r ≡ exitIn byte a ⌝ }
 {
-    if kind == 1 {
-        return put_counted(b" -> continuation ", t as u64, page, n);
+    match byte {
+        131 => a / 256 % 256,
+        132 => a / 65536 % 256,
+        _ => a / 16777216,
     }
-    if t == 65534 {
-        return put_text(b" -> escape", page, n);
-    }
-    if t == 65535 {
-        return put_text(b" -> dead", page, n);
-    }
-    put_counted(b" -> ", t as u64, page, n)
 }
 
-// A word, a number and the end of the line.
-pub(crate) fn put_line(word: &[u8], x: u64, page: &mut [u8], n: usize) -> usize
-    ensures { λ r. ⌜ Shown (joined (now (word .entry) ∷ number x ∷ end-line ∷ [])) n (now (page .entry)) r (now (page .exit)) ⌝ }
+fn low_in(byte: u8, a: u64, b: u64, c: u64) -> u64
+    ensures { λ r. ⌜ r ≡ lowIn byte a b c ⌝ }
 {
-    let behind_word = put_text(word, page, n);
-    let behind_number = put_number(x, page, behind_word);
-    put_text(b"\n", page, behind_number)
+    match byte {
+        134 => a,
+        135 => b % 256,
+        136 => b / 65536 % 256,
+        137 => c % 256,
+        _ => c / 65536 % 256,
+    }
+}
+
+fn high_in(byte: u8, b: u64, c: u64) -> u64
+    ensures { λ r. ⌜ r ≡ highIn byte b c ⌝ }
+{
+    match byte {
+        134 => b,
+        135 => b / 256 % 256,
+        136 => b / 16777216,
+        137 => c / 256 % 256,
+        _ => c / 16777216,
+    }
+}
+
+fn put_piece(byte: u8, a: u64, b: u64, c: u64, page: &mut [u8], n: usize) -> usize
+    ensures { λ r. ⌜ Shown (piece byte a b c) n (now (page .entry)) r (now (page .exit)) ⌝ }
+{
+    if byte < 128 {
+        return put_byte(byte, page, n);
+    }
+    if byte < 131 {
+        return put_number(number_in(byte, a, b, c), page, n);
+    }
+    if byte < 134 {
+        let exit = exit_in(byte, a);
+        return put_drawn(symbol_form(exit), exit, page, n);
+    }
+    put_range(low_in(byte, a, b, c), high_in(byte, b, c), page, n)
+}
+
+// A line, or a part of one, by its form and three numbers.
+pub(crate) fn put_form(form: usize, a: u64, b: u64, c: u64, page: &mut [u8], n: usize) -> usize
+    ensures { λ r. ⌜ Shown (formed form a b c) n (now (page .entry)) r (now (page .exit)) ⌝ }
+{
+    let mut i = form;
+    let mut byte = form_byte(i);
+    let mut m = n;
+    while 0 < byte {
+        m = put_piece(byte, a, b, c, page, m);
+        i += 1;
+        byte = form_byte(i);
+    }
+    m
 }

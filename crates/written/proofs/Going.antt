@@ -67,9 +67,3 @@ put-size {xs} {n} {old} p = ap length (p .is) ∙ lay-length n xs old
 
 pub put-size-1 : (i x : ℕ) (d : List ℕ) {xs : List ℕ} {n r : ℕ} {new : List ℕ} → Put xs n (set d i x) r new → length new ≡ length d
 put-size-1 i x d p = put-size p ∙ length-set d i x
-
-pub put-size-2 : (i x j y : ℕ) (d : List ℕ) {xs : List ℕ} {n r : ℕ} {new : List ℕ} → Put xs n (set (set d i x) j y) r new → length new ≡ length d
-put-size-2 i x j y d p = put-size-1 j y (set d i x) p ∙ length-set d i x
-
-pub put-size-4 : (i x j y k z l v : ℕ) (d : List ℕ) {xs : List ℕ} {n r : ℕ} {new : List ℕ} → Put xs n (set (set (set (set d i x) j y) k z) l v) r new → length new ≡ length d
-put-size-4 i x j y k z l v d p = put-size-2 k z l v (set (set d i x) j y) p ∙ length-set (set d i x) j y ∙ length-set d i x

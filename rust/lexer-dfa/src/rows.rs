@@ -12,7 +12,8 @@
 //!
 //! A call that writes asks for the room that the longest list can need before it reads a byte, and
 //! is refused with ROOM at 0 where a buffer is shorter. Refused, every number that is lent is 0;
-//! accepted, every one behind the answer's.
+//! accepted, every one behind the answer's, but for the two buffers for masks that [`build_rows`] works
+//! in.
 
 use crate::{Refusal, ffi};
 
@@ -57,9 +58,10 @@ pub struct Masked {
 pub struct RowBuffers<'a> {
     /// The segments, low and high each: [`SEGMENT_NUMBERS`].
     pub segments: &'a mut [u32],
-    /// The mask of each segment: [`MASK_WORDS`].
+    /// The mask of each segment: [`MASK_WORDS`]. Behind the masks of an accepted list the words stay as
+    /// they were lent.
     pub masks: &'a mut [u64],
-    /// The distinct masks: [`MASK_WORDS`].
+    /// The distinct masks: [`MASK_WORDS`]. Likewise.
     pub distinct: &'a mut [u64],
     /// The ascii row: [`ASCII_TARGETS`].
     pub ascii: &'a mut [u16],

@@ -9,10 +9,6 @@ place-masks-spec =
     (tie.spec
     (λ c κs. search placing)
     (λ c κs. search placing)
-    (λ c κs. search placing)
-    (λ c. search placing)
-    (λ c. search placing)
-    (λ c. search placing)
     (λ c. search placing)
     (λ c. search placing)
     (λ c κs. search placing)

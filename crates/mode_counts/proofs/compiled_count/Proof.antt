@@ -4,7 +4,7 @@ use mathlib.Core.Path.{_≡_}
 use lib.ListN.{length}
 use Rattle.modes.specs.Modes.{numbers}
 use Rattle.mode_counts.specs.Counts.{compiledOf}
-use Rattle.mode_counts.proofs.Flags.{counting}
+use Rattle.mode_counts.proofs.Walks.{counting}
 use Rattle.mode_counts.proofs.compiled_count.Statement.{statement}
 use Rattle.mode_counts.proofs.compiled_count.Tie as tie
 
@@ -23,7 +23,7 @@ compiled-count-spec =
     (λ c. search counting)
     (λ c. search counting)
     (λ c. search counting)
-    (λ c κs. search counting)
+    (λ c. search counting)
     (λ c. search counting)
     (λ c. search counting)
     (λ c. search counting)

@@ -9,10 +9,6 @@ counts-into-spec =
     (tie.spec
     (λ c κs. search listing)
     (λ c. search listing)
-    (λ c κs. search listing)
-    (λ c. search listing)
-    (λ c. search listing)
-    (λ c κs. search listing)
     (λ c. search listing)
     (λ c κs. search listing)
     (λ c. search listing)

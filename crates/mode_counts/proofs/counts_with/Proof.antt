@@ -12,8 +12,6 @@ counts-with-spec =
     (λ c. search answers)
     (λ c κs. search answers)
     (λ c. search answers)
-    (λ c κs. search answers)
-    (λ c. search answers)
     (λ c. search answers)
     (λ c. search answers)
     (λ c. search answers))

@@ -4,7 +4,7 @@ use mathlib.Core.Path.{_≡_}
 use lib.ListN.{length}
 use Rattle.modes.specs.Modes.{numbers}
 use Rattle.mode_counts.specs.Counts.{descent}
-use Rattle.mode_counts.proofs.Flags.{descending}
+use Rattle.mode_counts.proofs.Walks.{descending}
 use Rattle.mode_counts.proofs.first_descent.Statement.{statement}
 use Rattle.mode_counts.proofs.first_descent.Tie as tie
 

@@ -12,7 +12,6 @@ mode-state-counts-spec =
     (λ c. search answers)
     (λ c κs. search answers)
     (λ c. search answers)
-    (λ c κs. search answers)
     (λ c. search answers)
     (λ c. search answers)
     (λ c. search answers)

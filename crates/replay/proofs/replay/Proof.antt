@@ -1,15 +1,16 @@
--- `replay::replay` is safe and ends: each whole record leaves fewer bytes. Nothing has to hold from turn to turn. Assumes nothing.
+-- `replay::replay` is safe and ends: each whole record leaves fewer bytes. The counts keep their places. Assumes nothing.
 use Prim.Native.Nat.{_-_}
+use mathlib.Core.Path.{_≡_}
 use lib.ListN.{length}
 use borrow.Author.Needs.{needs}
 use Rattle.replay.proofs.replay.Statement.{statement}
 use Rattle.replay.proofs.replay.Tie as tie
 
 abbrev Inv-loop : tie.InvT-loop
-Inv-loop sample tallies₀ at₀ tallies at = Unit
+Inv-loop sample counts₀ at₀ counts at = length counts ≡ length counts₀
 
 abbrev μ-loop : tie.MeasureT-loop
-μ-loop sample tallies₀ at₀ tallies at = length sample - at
+μ-loop sample counts₀ at₀ counts at = length sample - at
 
 pub replay-spec : {M : Type 1} → statement M
 replay-spec =
@@ -17,7 +18,6 @@ replay-spec =
     (tie.spec
     Inv-loop
     μ-loop
-    (λ c κs. search needs)
     (λ c. search needs)
     (λ c. search needs)
     (λ c. search needs)
@@ -27,6 +27,8 @@ replay-spec =
     (λ c. search needs)
     (λ c κs. search needs)
     (λ c κs. search needs)
+    (λ c. search needs)
+    (λ c. search needs)
     (λ c. search needs)
     (λ c. search needs)
     (λ c. search needs)

@@ -19,7 +19,7 @@ use oracle::CompiledLexerDfa;
 const EACH: usize = 1300;
 const SCANS: usize = 400;
 
-/// The whole sample. `replay_lookups` reads 65,536 bytes.
+/// The whole sample. `replay_lookups` reads fewer than 65,536 bytes.
 pub fn bytes() -> Vec<u8> {
     let mut from = Seeded::new(41);
     let (table, theirs) = telling_table(&mut from);
@@ -46,7 +46,7 @@ pub fn bytes() -> Vec<u8> {
         scan(&mut from, &table, &theirs, state, &mut out);
     }
     list(13, &theirs.serialize(), &mut out);
-    assert!(out.len() <= 65_536);
+    assert!(out.len() < 65_536);
     out
 }
 

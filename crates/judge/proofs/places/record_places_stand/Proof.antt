@@ -31,7 +31,7 @@ record-places-stand-spec =
     (λ c. search placing)
     (λ c. search placing)
     (λ c. search placing)
-    (λ c κs. search placing)
+    (λ c. search placing)
     (λ c. search placing)
     (λ c. search placing)
     (λ c. search placing)

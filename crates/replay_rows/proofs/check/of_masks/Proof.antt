@@ -6,10 +6,10 @@ use Rattle.replay_rows.proofs.check.of_masks.Statement.{statement}
 use Rattle.replay_rows.proofs.check.of_masks.Tie as tie
 
 abbrev Inv-loop : tie.InvT-loop
-Inv-loop out sums₀ i₀ sums i = Unit
+Inv-loop out sum₀ sums₀ i₀ sum sums i = Unit
 
 abbrev μ-loop : tie.MeasureT-loop
-μ-loop out sums₀ i₀ sums i = length out - i
+μ-loop out sum₀ sums₀ i₀ sum sums i = length out - i
 
 pub of-masks-spec : {M : Type 1} → statement M
 of-masks-spec =
@@ -20,6 +20,7 @@ of-masks-spec =
     (λ c. search needs)
     (λ c. search needs)
     (λ c. search needs)
+    (λ c κs. search needs)
     (λ c κs. search needs)
     (λ c. search needs)
     (λ c. search needs)

@@ -7,10 +7,10 @@ use Rattle.replay_rows.proofs.read.halves.Statement.{statement}
 use Rattle.replay_rows.proofs.read.halves.Tie as tie
 
 abbrev Inv-loop : tie.InvT-loop
-Inv-loop s out₀ at₀ i₀ out at i = length out ≡ length out₀
+Inv-loop s from out₀ at₀ i₀ out at i = length out ≡ length out₀
 
 abbrev μ-loop : tie.MeasureT-loop
-μ-loop s out₀ at₀ i₀ out at i = length out₀ - i
+μ-loop s from out₀ at₀ i₀ out at i = length out₀ - i
 
 pub halves-spec : {M : Type 1} → statement M
 halves-spec =
@@ -19,7 +19,6 @@ halves-spec =
     Inv-loop
     μ-loop
     (λ c. search needs)
-    (λ c κs. search needs)
     (λ c κs. search needs)
     (λ c. search needs)
     (λ c. search needs)

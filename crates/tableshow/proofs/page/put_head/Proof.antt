@@ -1,4 +1,4 @@
--- What was shown is the text of the number that a call answered.
+-- What was shown is the text of the numbers that calls answered.
 use Rattle.tableshow.proofs.Parts.{parts}
 use Rattle.tableshow.proofs.page.put_head.Statement.{statement}
 use Rattle.tableshow.proofs.page.put_head.Tie as tie
@@ -8,8 +8,6 @@ put-head-spec =
     tie.close
     (tie.spec
     (λ c κs. search parts)
-    (λ c κs. search parts)
-    (λ c. search parts)
     (λ c κs. search parts)
     (λ c κs. search parts)
     (λ c κs. search parts)

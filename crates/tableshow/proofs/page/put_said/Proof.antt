@@ -1,4 +1,4 @@
--- What was shown is the text of the number that a call answered.
+-- What was shown is the text of the numbers that calls answered.
 use Rattle.tableshow.proofs.Parts.{parts}
 use Rattle.tableshow.proofs.page.put_said.Statement.{statement}
 use Rattle.tableshow.proofs.page.put_said.Tie as tie
@@ -11,6 +11,9 @@ put-said-spec =
     (λ c κs. search parts)
     (λ c κs. search parts)
     (λ c κs. search parts)
+    (λ c κs. search parts)
+    (λ c. search parts)
+    (λ c. search parts)
     (λ c κs. search parts)
     (λ c. search parts)
     (λ c. search parts))

@@ -34,5 +34,6 @@ put-ranges-spec =
     (λ c. search ranges)
     (λ c. search ranges)
     (λ c κs. search ranges)
+    (λ c κs. search ranges)
     (λ c. search ranges)
     (λ c. search ranges))

@@ -1,4 +1,4 @@
--- What was shown is the text of the number that a call answered.
+-- What was shown is the text of the numbers that calls answered.
 use Rattle.tableshow.proofs.Parts.{parts}
 use Rattle.tableshow.proofs.rows.put_row.Statement.{statement}
 use Rattle.tableshow.proofs.rows.put_row.Tie as tie

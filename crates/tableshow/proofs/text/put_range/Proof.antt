@@ -1,5 +1,5 @@
--- The parts are put one behind the other, by the tests that the code makes.
-use Rattle.tableshow.proofs.Shows.{shows}
+-- The parts are put one behind the other.
+use Rattle.tableshow.proofs.Filling.{pieces}
 use Rattle.tableshow.proofs.text.put_range.Statement.{statement}
 use Rattle.tableshow.proofs.text.put_range.Tie as tie
 
@@ -7,9 +7,12 @@ pub put-range-spec : {M : Type 1} → statement M
 put-range-spec =
     tie.close
     (tie.spec
-    (λ c κs. search shows)
-    (λ c. search shows)
-    (λ c. search shows)
-    (λ c κs. search shows)
-    (λ c. search shows)
-    (λ c. search shows))
+    (λ c κs. search pieces)
+    (λ c κs. search pieces)
+    (λ c. search pieces)
+    (λ c. search pieces)
+    (λ c κs. search pieces)
+    (λ c κs. search pieces)
+    (λ c κs. search pieces)
+    (λ c. search pieces)
+    (λ c. search pieces))

@@ -1,0 +1,12 @@
+-- The answer in C is what the call says, case by case.
+use Rattle.accepts_c.proofs.Calls.{looking}
+use Rattle.accepts_c.proofs.lexer_dfa_accept.Statement.{statement}
+use Rattle.accepts_c.proofs.lexer_dfa_accept.Tie as tie
+
+pub lexer-dfa-accept-spec : {M : Type 1} → statement M
+lexer-dfa-accept-spec =
+    tie.close
+    (tie.spec
+    (λ c κs. search looking)
+    (λ c κs. search looking)
+    (λ c. search looking))

@@ -1,0 +1,12 @@
+-- The answer in C is what the call says, case by case.
+use Rattle.coverage_c.proofs.Calls.{looking}
+use Rattle.coverage_c.proofs.lexer_dfa_coverage.Statement.{statement}
+use Rattle.coverage_c.proofs.lexer_dfa_coverage.Tie as tie
+
+pub lexer-dfa-coverage-spec : {M : Type 1} → statement M
+lexer-dfa-coverage-spec =
+    tie.close
+    (tie.spec
+    (λ c κs. search looking)
+    (λ c κs. search looking)
+    (λ c. search looking))

@@ -1,0 +1,15 @@
+-- Each form is the text that the definition chooses.
+use Rattle.tableshow.specs.Shown.{joined, ifLess}
+use Rattle.tableshow.specs.Forms.{formed, filled, forms, piece, numberIn, exitIn, lowIn, highIn}
+use Rattle.tableshow.proofs.Filling.{lines}
+use Rattle.tableshow.proofs.page.end_form.Statement.{statement}
+use Rattle.tableshow.proofs.page.end_form.Tie as tie
+
+pub end-form-spec : {M : Type 1} → statement M
+unfolding formed filled forms joined ifLess piece numberIn exitIn lowIn highIn
+end-form-spec =
+    tie.close
+    (tie.spec
+    (λ c. search lines)
+    (λ c. search lines)
+    (λ c. search lines))

@@ -1,0 +1,12 @@
+-- Each form is the text that the definition chooses.
+use Rattle.tableshow.proofs.Filling.{lines}
+use Rattle.tableshow.proofs.page.until_form.Statement.{statement}
+use Rattle.tableshow.proofs.page.until_form.Tie as tie
+
+pub until-form-spec : {M : Type 1} → statement M
+until-form-spec =
+    tie.close
+    (tie.spec
+    (λ c. search lines)
+    (λ c. search lines)
+    (λ c. search lines))

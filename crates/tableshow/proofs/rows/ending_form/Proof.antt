@@ -1,0 +1,14 @@
+-- Each form is the text that the definition chooses.
+use Rattle.tableshow.specs.Shown.{joined, ifLess}
+use Rattle.tableshow.specs.Forms.{formed, filled, forms, piece, numberIn, exitIn, lowIn, highIn}
+use Rattle.tableshow.proofs.Filling.{choices}
+use Rattle.tableshow.proofs.rows.ending_form.Statement.{statement}
+use Rattle.tableshow.proofs.rows.ending_form.Tie as tie
+
+pub ending-form-spec : {M : Type 1} → statement M
+unfolding formed filled forms joined ifLess piece numberIn exitIn lowIn highIn
+ending-form-spec =
+    tie.close
+    (tie.spec
+    (λ c. search choices)
+    (λ c. search choices))
