@@ -4,8 +4,8 @@ use mathlib.Core.Path.{_≡_}
 use mathlib.Core.List.{_++_}
 use lib.ListN.{length, drop, replicate}
 use Rattle.written.proofs.Overs.{clearing}
-use Rattle.written.proofs.clear.Statement.{statement}
-use Rattle.written.proofs.clear.Tie as tie
+use Rattle.written.proofs.write_zeros.Statement.{statement}
+use Rattle.written.proofs.write_zeros.Tie as tie
 
 abbrev Inv-loop : tie.InvT-loop
 Inv-loop numbers₀ i₀ numbers i =
@@ -14,8 +14,8 @@ Inv-loop numbers₀ i₀ numbers i =
 abbrev μ-loop : tie.MeasureT-loop
 μ-loop numbers₀ i₀ numbers i = length numbers₀ - i
 
-pub clear-spec : {M : Type 1} → statement M
-clear-spec =
+pub write-zeros-spec : {M : Type 1} → statement M
+write-zeros-spec =
     tie.close
     (tie.spec
     Inv-loop
