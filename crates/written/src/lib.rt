@@ -5,7 +5,7 @@ ghost use lib.ListN.{length};
 ghost use Rattle.written.specs.Over.{zeros};
 
 // How many numbers are read at a time, and written where they are not all 0.
-const BLOCK: usize = 512;
+const BLOCK: usize = 256;
 
 // Up to so many numbers stay in the nearest cache, where to write costs less than to read.
 const SHORT: usize = 4096;
