@@ -13,13 +13,14 @@ use Rattle.refusal.specs.declared.Refusal.{Refusal}
 use Rattle.refusal.specs.Said.{Said, ok, no, ROOM}
 use Rattle.written.specs.Over.{over, lay, Put, zeros}
 use Rattle.written.proofs.Overs.{over-length, lay-zeros}
+use Rattle.transitions.specs.declared.Transitions.{Transitions}
+use Rattle.transitions.specs.declared.Transitions.the-variants as told
 use Rattle.transitions.specs.Transition.{Transition}
 use Rattle.transitions.specs.Read.{Parsed, parsed, refused, parseFrom, parse, isParsed, accepted}
-use Rattle.transitions.specs.Intervals.{intervals}
-use Rattle.transitions.specs.Bytes.{sizeAt}
-use Rattle.transitions.specs.Walk.{transAt, nextAt, transFrom, Sound}
+use Rattle.transitions.specs.Read as list
+use Rattle.transitions.specs.Walk.{nextAt, transFrom, Sound}
 use Rattle.transitions.proofs.Order.{le-cases}
-use Rattle.transitions.proofs.Accepted.{Turn, turn, AllInOrder, Listed, listed, ended, walk}
+use Rattle.transitions.proofs.Accepted.{AllInOrder, Listed, listed, ended, walk}
 use Rattle.segments.specs.declared.Segments.{Segments}
 use Rattle.segments.specs.declared.Segments.the-variants as found
 use Rattle.segments.specs.Segments.{cutsOf, starts, startsFrom, segments, segmentsFrom}
@@ -37,46 +38,19 @@ use Rattle.masks.specs.Answer.{said, told, parseMasks, counted, masksIn,
 use Rattle.masks.proofs.Packs.{length-pack}
 use Rattle.masks.proofs.Columns.{over-append}
 
--- How many transitions an accepted list has: its records from `at` on are still to be counted
+-- How many transitions a list has: no more than 256
 
-pub record Counting (w : List ℕ) (at n : ℕ) : Type 0 where
-  pub left : ℕ
-  pub used : ℕ
-  pub good : isParsed (parseFrom w left at used) ≡ true
-  pub is : n + length (accepted (parseFrom w left at used)) ≡ length (accepted (parse w))
-  pub few : n ≤ at
+pub count-read : (x : Parsed) {got : Transitions} {c k : ℕ} → list.said got ≡ list.counted x → got ≡ told.Read c k → c ≡ length (accepted x)
+unfolding list.counted accepted
+count-read (parsed ts) {got} {c} {k} g e = let h : list.said (told.Read c k) ≡ list.counted (parsed ts) = ap list.said (sym e) ∙ g in cc
+count-read (refused n p) g e = let z : _≡_ {A = ℕ} 0 1 = cc in absurd (omega arith)
 
-pub count-start : (w : List ℕ) → isParsed (parse w) ≡ true → Counting w 0 0
-count-start w h = record { left = 256; used = 0; good = h; is = omega arith; few = omega arith }
+pub count-refused : (x : Parsed) {got : Transitions} {r : Refusal} → list.said got ≡ list.counted x → got ≡ told.Refused r → 0 ≡ length (accepted x)
+unfolding list.counted accepted
+count-refused (parsed ts) g e = let z : _≡_ {A = ℕ} 0 1 = cc in absurd (omega arith)
+count-refused (refused n p) g e = refl
 
-module _ (w : List ℕ) (at n : ℕ) (g : Counting w at n) where
-  module _ (l : at < length w) where
-    here : Turn w (g .left) at (g .used)
-    here = turn w (g .left) at (g .used) l (g .good)
-
-    pub count-size : at + 1 + 2 ≤ length w
-    count-size = omega (arith, here .fine .there)
-
-    module _ {s : ℕ} (e : s ≡ sizeAt w (at + 1)) where
-      pub count-value : at + 3 + s ≤ length w
-      count-value = rw e (here .fine .there)
-
-      pub count-again : Counting w (at + 3 + s) (n + 1)
-      count-again =
-          let h : n + suc (length (accepted (parseFrom w (g .left - 1) (nextAt w at) (g .used + length (intervals (transAt w at)))))) ≡ length (accepted (parse w)) = rw (here .is) at (g .is) in
-          rw e
-          (record {
-            left = g .left - 1;
-            used = g .used + length (intervals (transAt w at));
-            good = here .rest;
-            is = omega (arith, h);
-            few = omega (arith, g .few);
-          })
-
-  pub count-done : length w ≤ at → n ≡ length (accepted (parse w))
-  count-done l = let h : n + 0 ≡ length (accepted (parse w)) = rw (ended w (g .left) at (g .used) l) at (g .is) in omega (arith, h)
-
-pub ruleset counts = (needs, count-start, count-size, count-value, count-again, count-done)
+pub ruleset counts = (needs, count-read, count-refused)
 
 pub few-from : (w : List ℕ) (left at used : ℕ) → isParsed (parseFrom w left at used) ≡ true → length (accepted (parseFrom w left at used)) ≤ left
 few-from w =
@@ -190,10 +164,7 @@ module _ (w ns : List ℕ) (count : ℕ) (d : List ℕ) (r : Ready w ns count d)
       is-laid count n (parse w) ns d _ (r .good) (r .each) e (r .points)
       (p .is ∙ ap (λ (a : List ℕ). lay 0 a d) written ∙ lay-over (flat (matrix ts)) d)
 
-pub fill-good : (w ns : List ℕ) (count : ℕ) (d : List ℕ) → Ready w ns count d → isParsed (parse w) ≡ true
-fill-good w ns count d r = r .good
-
-pub ruleset filling = (needs, fill-good, fill-sound, fill-points, fill-room, fill-fits, fill-done)
+pub ruleset filling = (needs, fill-sound, fill-points, fill-room, fill-fits, fill-done)
 
 -- What the answer for segments says of the list
 

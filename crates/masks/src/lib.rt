@@ -8,7 +8,7 @@ ghost use lib.ListN.{length, drop};
 ghost use Rattle.written.specs.Over.{lay, Put, zeros};
 ghost use Rattle.transitions.specs.Transition.{origin, atom, holds, holdAt, inOrder};
 ghost use Rattle.transitions.specs.Bytes.{numberAt, sizeAt, shapeOf, transOf};
-ghost use Rattle.transitions.specs.Read.{parse, isParsed, accepted};
+ghost use Rattle.transitions.specs.Read.{parse, accepted};
 ghost use Rattle.transitions.specs.Walk.{transAt, transFrom};
 ghost use Rattle.masks.specs.Masks.{bit, wordOf, maskOf, masksAt, flat};
 ghost use Rattle.masks.specs.Walk.{Fit, nextOf, Rises, Passed, Reach, Floor, last, Spans, byLow, Tells, Covers, lows, column, Columned};
@@ -16,6 +16,7 @@ ghost use Rattle.masks.specs.Answer.{parseMasks, Laid, Matrix, Ready};
 use refusal::ROOM;
 use refusal::Refusal;
 use segments::Segments;
+use transitions::Transitions;
 
 // The key of the point 0.
 const ORIGIN: u64 = 2147483648;
@@ -416,19 +417,14 @@ fn put_masks(list: &[u8], n: usize, segments: &[u32], count: usize, out: &mut [u
     put_rows(list, n, segments, count, out)
 }
 
-// How many transitions an accepted list has. It was judged when its segments were found, so the records are only counted.
+// How many transitions an accepted list has.
 fn transition_count(list: &[u8]) -> usize
-    requires { ⌜ isParsed (parse (now list)) ≡ true ⌝ }
     ensures { λ r. ⌜ r ≡ length (accepted (parse (now (list .entry)))) ⌝ }
 {
-    let mut at: usize = 0;
-    let mut n: usize = 0;
-    while at < list.len() {
-        let size = size_at(list, at + 1);
-        at = at + 3 + size;
-        n += 1;
+    match transitions::read_transitions(list) {
+        Transitions::Read { count, intervals } => count,
+        Transitions::Refused(r) => 0,
     }
-    n
 }
 
 // The masks of the segments that stand, over the front of a buffer.
