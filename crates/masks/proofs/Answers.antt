@@ -24,7 +24,7 @@ use Rattle.transitions.proofs.Accepted.{AllInOrder, Listed, listed, ended, walk
 use Rattle.segments.specs.declared.Segments.{Segments}
 use Rattle.segments.specs.declared.Segments.the-variants as found
 use Rattle.segments.specs.Segments.{cutsOf, starts, startsFrom, segments, segmentsFrom}
-use Rattle.segments.specs.Answer.{parseFor, segmentsOver}
+use Rattle.segments.specs.Answer.{parseFor, segmentsIn, segmentsOver}
 use Rattle.segments.specs.Answer as seg
 use Rattle.segments.proofs.Puts.{lay-over}
 use Rattle.segments.proofs.Answers.{length-starts, few-segments, segments-roomy, segments-asked, segments-fit, segments-zeros}

@@ -1,5 +1,5 @@
 -- The laws of the row call: what the segments and places that stand give is the row of the list. w is the list's bytes. Assumes nothing.
-use Prim.Native.Nat.{ℕ, suc, _+_, _*_, _-_, _≤_, _<_}
+use Prim.Native.Nat.{ℕ, zero, suc, _+_, _*_, _-_, _≤_, _<_}
 use mathlib.Core.Path.{_≡_, refl, sym, ap, ap₂, subst, _∙_}
 use mathlib.Core.Bool.{Bool, true, false, false≢true, _&&_, _||_}
 use mathlib.Core.List.{List, [], _∷_, _++_}
@@ -29,7 +29,7 @@ use Rattle.masks.proofs.Keeps.{place-some, place-none}
 use Rattle.masks.proofs.Answers.{length-masks, low-high-fit}
 use Rattle.distinct_masks.proofs.Distincts.{length-places, few-distinct}
 use Rattle.distinct_masks.proofs.Answers.{accepted-list, distinct-asked, roomy-places}
-use Rattle.row_laws.specs.Row.{Row, DEAD, Sorted, numbers, rowFrom, rowOver, joinTo, join, partFrom, asciiPart, widePart}
+use Rattle.row_laws.specs.Row.{Row, DEAD, Sorted, numbers, rowFrom, rowOver, joinTo, join, partFrom, values, asciiPart, widePart}
 use Rattle.row_laws.specs.Build.{given, targetOf, contOf, targetRow, contRow, asciiOf, wideOf, escapeOf}
 use Rattle.row_laws.proofs.Built as built
 use Rattle.row_laws.proofs.Searches.{sorted-weaken}

@@ -14,7 +14,7 @@ use Rattle.transitions.specs.Read.{Parsed, parsed, refused}
 use Rattle.segments.specs.Segments.{cutsOf, segments}
 use Rattle.masks.specs.Masks.{matrix, distinctOf, flat}
 use Rattle.masks.specs.Answer.{parseDistinct}
-use Rattle.row_laws.specs.Row.{numbers}
+use Rattle.row_laws.specs.Row.{Row, numbers}
 use Rattle.row_laws.specs.Build.{asciiOf, wideOf, escapeOf}
 use Rattle.rows.specs.declared.Rows.{Rows}
 use Rattle.rows.specs.declared.Rows.the-variants.{Built, Refused}

@@ -53,7 +53,7 @@ unfolding endsIn padded isParsed accepted
 padded-is n (parsed ts) h = refl
 padded-is n (refused k p) h = let z : _≡_ {A = ℕ} 0 1 = cc in absurd (omega arith)
 
-length-padded : (n : ℕ) (xs : List ℕ) → length xs ≤ n → length (padded n xs) ≡ n
+pub length-padded : (n : ℕ) (xs : List ℕ) → length xs ≤ n → length (padded n xs) ≡ n
 unfolding padded
 length-padded n xs h =
     let z : length (zeros (n - length xs)) ≡ n - length xs = length-replicate (n - length xs) 0 in
