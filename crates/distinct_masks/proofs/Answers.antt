@@ -17,9 +17,7 @@ use Rattle.transitions.specs.Transition.{Transition}
 use Rattle.transitions.specs.Read.{Parsed, parsed, refused, parse}
 use Rattle.transitions.proofs.Order.{le-cases}
 use Rattle.segments.specs.Segments.{cutsOf, starts}
-use Rattle.segments.specs.Answer.{segmentsOver}
-use Rattle.segments.proofs.Puts.{lay-over}
-use Rattle.segments.proofs.Answers.{segments-zeros}
+use Rattle.segments.specs.Answer.{segmentsIn}
 use Rattle.masks.specs.declared.Masks.{Masks}
 use Rattle.masks.specs.declared.Masks.the-variants.{Count, Refused}
 use Rattle.masks.specs.declared.Places.{Places}
@@ -27,8 +25,8 @@ use Rattle.masks.specs.declared.Places.the-variants as place
 use Rattle.masks.specs.Masks.{wordsFor, masksAt, matrix, flat, distinct, distinctOf, placesIn, placesOf}
 use Rattle.distinct_masks.specs.Walk.{chunks, Gathered, Spaced}
 use Rattle.masks.specs.Answer.{said, told, parseMasks, parseDistinct, parsePlaces, counted, foundIn, masksOver, placesOver, Laid, Distinct, Placed}
-use Rattle.masks.proofs.Columns.{over-append}
-use Rattle.masks.proofs.Answers.{few-of, length-mask, length-masks, masks-asked, low-high-fit, matrix-fits, over-zeros}
+use Rattle.masks.proofs.Columns.{lay-over, over-append}
+use Rattle.masks.proofs.Answers.{few-of, length-mask, length-masks, masks-asked, matrix-fits, over-zeros}
 use Rattle.distinct_masks.proofs.Distincts.{Wide, length-flat, chunks-flat, wide-distinct, few-distinct}
 
 -- The call for the distinct ones: what the answer for masks says of the list
@@ -41,7 +39,7 @@ record Each (s n : ℕ) (w : List ℕ) (c k : ℕ) (old ms : List ℕ) : Type 0 
   words : k ≡ wordsFor (length ts)
   leaves : ms ≡ over (flat (matrix ts)) old
 
-pub distinct-asked : (s n d : ℕ) (w : List ℕ) (ts : List Transition) → parseDistinct s n d w ≡ parsed ts → (parseMasks s n w ≡ parsed ts) × (8192 ≤ d)
+distinct-asked : (s n d : ℕ) (w : List ℕ) (ts : List Transition) → parseDistinct s n d w ≡ parsed ts → (parseMasks s n w ≡ parsed ts) × (8192 ≤ d)
 unfolding parseDistinct
 distinct-asked s n d w ts e =
     le-cases 8192 d
@@ -80,15 +78,15 @@ distinct-fits s n d w ts e =
       distinct-asked s n d w ts e .1,
     )
 
-no-masks : (x : Parsed) (r : Refusal) (a ns b ms d q : List ℕ) → said (Refused r) ≡ counted matrix x → ns ≡ segmentsOver a x → ms ≡ masksOver matrix b x →
-    Placed (place.Refused r) a ns b ms d d q q x
+no-masks : (s : ℕ) (x : Parsed) (r : Refusal) (ns old ms d q : List ℕ) → said (Refused r) ≡ counted matrix x → ns ≡ segmentsIn s x → ms ≡ masksOver matrix old x →
+    Placed (place.Refused r) s ns old ms d d q q x
 unfolding counted masksOver foundIn placesOver
-no-masks (parsed ts) r a ns b ms d q e l m = let z : _≡_ {A = ℕ} 0 1 = cc in absurd (omega arith)
-no-masks (refused k p) r a ns b ms d q e l m = record { says = e; low-high = l; each = m; once = refl; leaves = refl }
+no-masks s (parsed ts) r ns old ms d q e a b = let z : _≡_ {A = ℕ} 0 1 = cc in absurd (omega arith)
+no-masks s (refused k p) r ns old ms d q e a b = record { says = e; low-high = a; each = b; once = refl; leaves = refl }
 
 -- The masks of the list stand: their distinct ones and places, over the fronts of two buffers
 
-module _ (w a b d q : List ℕ) (z : (8192 ≤ length d) × (2048 ≤ length q)) {got : Masks} {ns ms : List ℕ} (g : Laid got a ns b ms (parseMasks (length a) (length b) w)) where
+module _ (w a b d q : List ℕ) (z : (8192 ≤ length d) × (2048 ≤ length q)) {got : Masks} {ns ms : List ℕ} (g : Laid got (length a) ns b ms (parseMasks (length a) (length b) w)) where
   module _ {c k : ℕ} (i : got ≡ Count c k) where
     of : Each (length a) (length b) w c k b ms
     of = each (length a) (length b) w c k b ms (parseMasks (length a) (length b) w) refl (ap said (sym i) ∙ g .says) (g .leaves)
@@ -124,7 +122,7 @@ module _ (w a b d q : List ℕ) (z : (8192 ≤ length d) × (2048 ≤ length q))
         ∙ chunks-flat k (matrix us) (drop (length (flat (matrix us))) b) rows
 
     pub distinct-found : {r : ℕ} {out ps : List ℕ} → Gathered (chunks c k ms) d r out q ps →
-        Placed (place.Found c r k) a ns b ms d out q ps (parseMasks (length a) (length b) w)
+        Placed (place.Found c r k) (length a) ns b ms d out q ps (parseMasks (length a) (length b) w)
     unfolding foundIn masksOver placesOver
     distinct-found {r} {out} {ps} s =
         let is : distinct [] (chunks c k ms) ≡ distinctOf us = ap (distinct []) front in
@@ -136,10 +134,10 @@ module _ (w a b d q : List ℕ) (z : (8192 ≤ length d) × (2048 ≤ length q))
         let says : told (place.Found c r k) ≡ foundIn (parsed us) =
         ap₂ {C = Said} (λ x l. ok (x ∷ l)) size (ap₂ {C = List ℕ} (λ x y. x ∷ y ∷ []) (s .masks .count ∙ ap length is) (of .words)) in
         rw (of .is)
-        (record { says = says; low-high = g .low-high ∙ ap (segmentsOver a) (of .is); each = of .leaves; once = left; leaves = stands })
+        (record { says = says; low-high = g .low-high ∙ ap (segmentsIn (length a)) (of .is); each = of .leaves; once = left; leaves = stands })
 
-  pub distinct-refused : {r : Refusal} → got ≡ Refused r → Placed (place.Refused r) a ns b ms d d q q (parseMasks (length a) (length b) w)
-  distinct-refused {r} i = no-masks (parseMasks (length a) (length b) w) r a ns b ms d q (ap said (sym i) ∙ g .says) (g .low-high) (g .leaves)
+  pub distinct-refused : {r : Refusal} → got ≡ Refused r → Placed (place.Refused r) (length a) ns b ms d d q q (parseMasks (length a) (length b) w)
+  distinct-refused {r} i = no-masks (length a) (parseMasks (length a) (length b) w) r ns b ms d q (ap said (sym i) ∙ g .says) (g .low-high) (g .leaves)
 
 pub ruleset filling = (needs, distinct-spaced, distinct-found, distinct-refused)
 
@@ -177,15 +175,15 @@ module _ (d q : List ℕ) {t : Bool} (u : t ≡ (ltb (length d) 8192 || ltb (len
     long-places = ltb-false (length q) 2048 (none-of-both (ltb (length d) 8192) (ltb (length q) 2048) (sym u ∙ h) .1)
 
   module _ (w a b : List ℕ) where
-    pub none-room : t ≡ true →
-        Placed (place.Refused (record { number = ROOM; place = 0 })) a a b b d d q q (parsePlaces (length a) (length b) (length d) (length q) w)
-    unfolding parsePlaces parseDistinct foundIn segmentsOver masksOver placesOver
-    none-room h =
+    pub none-room : {ns : List ℕ} → t ≡ true → ns ≡ zeros (length a) →
+        Placed (place.Refused (record { number = ROOM; place = 0 })) (length a) ns b b d d q q (parsePlaces (length a) (length b) (length d) (length q) w)
+    unfolding parsePlaces parseDistinct foundIn segmentsIn masksOver placesOver
+    none-room h s =
         rw (room-true (ltb (length d) 8192) (ltb (length q) 2048) (parseMasks (length a) (length b) w) (sym u ∙ h))
-        (record { says = refl; low-high = refl; each = refl; once = refl; leaves = refl })
+        (record { says = refl; low-high = s; each = refl; once = refl; leaves = refl })
 
-    pub placed : {got : Places} {ns ms out ps : List ℕ} → t ≡ false → Placed got a ns b ms d out q ps (parseMasks (length a) (length b) w) →
-        Placed got a ns b ms d out q ps (parsePlaces (length a) (length b) (length d) (length q) w)
+    pub placed : {got : Places} {ns ms out ps : List ℕ} → t ≡ false → Placed got (length a) ns b ms d out q ps (parseMasks (length a) (length b) w) →
+        Placed got (length a) ns b ms d out q ps (parsePlaces (length a) (length b) (length d) (length q) w)
     unfolding parsePlaces parseDistinct
     placed h g = rw (room-false (ltb (length d) 8192) (ltb (length q) 2048) (parseMasks (length a) (length b) w) (sym u ∙ h)) g
 
@@ -210,29 +208,26 @@ unfolding foundIn counted
 none-said (parsed ts) e = let z : _≡_ {A = ℕ} 0 1 = cc in absurd (omega arith)
 none-said (refused n p) e = e
 
--- .. and its other buffers were cleared first
-module _ (w a b e : List ℕ) {a₀ b₀ e₀ q ps : List ℕ} (v : a₀ ≡ zeros (length a)) (y : b₀ ≡ zeros (length b)) (z : e₀ ≡ zeros (length e)) {got : Places} {ns ms out : List ℕ}
-    (h : Placed got a₀ ns b₀ ms e₀ out q ps (parsePlaces (length a₀) (length b₀) (length e₀) (length q) w)) (p : length q ≡ 2048) where
+-- .. and its buffers for masks were cleared first
+module _ (w a b e : List ℕ) {b₀ e₀ q ps : List ℕ} (y : b₀ ≡ zeros (length b)) (z : e₀ ≡ zeros (length e)) {got : Places} {ns ms out : List ℕ}
+    (h : Placed got (length a) ns b₀ ms e₀ out q ps (parsePlaces (length a) (length b₀) (length e₀) (length q) w)) (p : length q ≡ 2048) where
   abbrev x : Parsed
   x = parseDistinct (length a) (length b) (length e) w
 
-  same-list : parsePlaces (length a₀) (length b₀) (length e₀) (length q) w ≡ x
+  same-list : parsePlaces (length a) (length b₀) (length e₀) (length q) w ≡ x
   same-list =
-      let i : length a₀ ≡ length a = ap length v ∙ length-replicate (length a) 0 in
-      let j : length b₀ ≡ length b = ap length y ∙ length-replicate (length b) 0 in
-      let k : length e₀ ≡ length e = ap length z ∙ length-replicate (length e) 0 in
-      rw (i, j, k) (roomy-places (length a) (length b) (length e) (length q) w (omega arith))
-
-  asked : (ts : List Transition) → x ≡ parsed ts → parseMasks (length a) (length b) w ≡ parsed ts
-  asked ts i = distinct-asked (length a) (length b) (length e) w ts i .0
+      let i : length b₀ ≡ length b = ap length y ∙ length-replicate (length b) 0 in
+      let j : length e₀ ≡ length e = ap length z ∙ length-replicate (length e) 0 in
+      rw (i, j) (roomy-places (length a) (length b) (length e) (length q) w (omega arith))
 
   without : {r : Masks} → said r ≡ counted distinctOf x → Distinct r (length a) ns (length b) ms (length e) out x
   without s =
       let g = rw same-list at h in
       record {
         says = s;
-        low-high = g .low-high ∙ ap (λ (o : List ℕ). segmentsOver o x) v ∙ segments-zeros (length a) x (λ ts i. low-high-fit (length a) (length b) w ts (asked ts i));
-        each = g .each ∙ ap (λ (o : List ℕ). masksOver matrix o x) y ∙ over-zeros matrix (length b) x (λ ts i. matrix-fits (length a) (length b) w ts (asked ts i));
+        low-high = g .low-high;
+        each = g .each ∙ ap (λ (o : List ℕ). masksOver matrix o x) y
+            ∙ over-zeros matrix (length b) x (λ ts i. matrix-fits (length a) (length b) w ts (distinct-asked (length a) (length b) (length e) w ts i .0));
         leaves = g .once ∙ ap (λ (o : List ℕ). masksOver distinctOf o x) z
             ∙ over-zeros distinctOf (length e) x (distinct-fits (length a) (length b) (length e) w);
       }

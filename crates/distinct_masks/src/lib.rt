@@ -185,7 +185,7 @@ fn fill_places(
     places: &mut [u32],
 ) -> Places
     requires { ⌜ (8192 ≤ length (now out)) × (2048 ≤ length (now places)) ⌝ }
-    ensures { λ r. ⌜ Placed r (now (segments .entry)) (now (segments .exit)) (now (masks .entry)) (now (masks .exit)) (now (out .entry)) (now (out .exit)) (now (places .entry)) (now (places .exit)) (parseMasks (length (now (segments .entry))) (length (now (masks .entry))) (now (list .entry))) ⌝ }
+    ensures { λ r. ⌜ Placed r (length (now (segments .entry))) (now (segments .exit)) (now (masks .entry)) (now (masks .exit)) (now (out .entry)) (now (out .exit)) (now (places .entry)) (now (places .exit)) (parseMasks (length (now (segments .entry))) (length (now (masks .entry))) (now (list .entry))) ⌝ }
 {
     match masks::lay_masks(list, segments, masks) {
         Masks::Count {
@@ -204,8 +204,8 @@ fn fill_places(
 }
 
 // The segments of a list, the mask of each, the distinct ones of those that are not empty, in order of first segment, and for each segment
-// the place of its mask among these, or NONE. All are written over the fronts of their buffers, which stay as they were lent behind them, and
-// all through where the list is refused.
+// the place of its mask among these, or NONE. Masks, distinct ones and places are written over the fronts of their buffers, which stay as they
+// were lent behind them, and all through where the list is refused. Segments have zeros behind them, and are 0 where the list is refused.
 pub fn place_masks(
     list: &[u8],
     segments: &mut [u32],
@@ -213,9 +213,10 @@ pub fn place_masks(
     out: &mut [u64],
     places: &mut [u32],
 ) -> Places
-    ensures { λ r. ⌜ Placed r (now (segments .entry)) (now (segments .exit)) (now (masks .entry)) (now (masks .exit)) (now (out .entry)) (now (out .exit)) (now (places .entry)) (now (places .exit)) (parsePlaces (length (now (segments .entry))) (length (now (masks .entry))) (length (now (out .entry))) (length (now (places .entry))) (now (list .entry))) ⌝ }
+    ensures { λ r. ⌜ Placed r (length (now (segments .entry))) (now (segments .exit)) (now (masks .entry)) (now (masks .exit)) (now (out .entry)) (now (out .exit)) (now (places .entry)) (now (places .exit)) (parsePlaces (length (now (segments .entry))) (length (now (masks .entry))) (length (now (out .entry))) (length (now (places .entry))) (now (list .entry))) ⌝ }
 {
     if too_short(out.len(), places.len()) {
+        written::clear(segments);
         return Places::Refused(Refusal {
             number: ROOM,
             place: 0,
@@ -234,7 +235,6 @@ pub fn distinct_masks(
 ) -> Masks
     ensures { λ r. ⌜ Distinct r (length (now (segments .entry))) (now (segments .exit)) (length (now (masks .entry))) (now (masks .exit)) (length (now (out .entry))) (now (out .exit)) (parseDistinct (length (now (segments .entry))) (length (now (masks .entry))) (length (now (out .entry))) (now (list .entry))) ⌝ }
 {
-    written::clear(segments);
     written::clear_words(masks);
     written::clear_words(out);
     let mut places = [0u32; 2048];

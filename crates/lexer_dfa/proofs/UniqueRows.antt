@@ -5,7 +5,6 @@ use mathlib.Core.List.{List, [], _∷_}
 use Rattle.transitions.proofs.read_transitions.Reads as read-transitions
 use Rattle.interval_ends.proofs.read_intervals.Reads as read-intervals
 use Rattle.transitions.proofs.Records as transitions
-use Rattle.segments.proofs.lay_segments.Reads as lay-segments
 use Rattle.segments.proofs.char_segments.Reads as char-segments
 use Rattle.segments.proofs.Answers as segments
 use Rattle.masks.proofs.lay_masks.Reads as lay-masks
@@ -31,9 +30,6 @@ pub read-intervals-unique : DeterminesBoth (λ κs e. e .1 .0) read-intervals.Le
 read-intervals-unique κs a x y e f p q = (transitions.said-one x y (p .says ∙ sym (q .says)), p .leaves ∙ sym (q .leaves))
 
 -- segments
-
-pub lay-segments-unique : DeterminesBoth (λ κs e. e .1 .0) lay-segments.Learnt
-lay-segments-unique κs a x y e f p q = (segments.said-one x y (p .says ∙ sym (q .says)), p .leaves ∙ sym (q .leaves))
 
 pub char-segments-unique : DeterminesBoth (λ κs e. e .1 .0) char-segments.Learnt
 char-segments-unique κs a x y e f p q = (segments.said-one x y (p .says ∙ sym (q .says)), p .leaves ∙ sym (q .leaves))

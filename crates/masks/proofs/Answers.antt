@@ -8,11 +8,11 @@ use borrow.Author.Needs.{needs}
 use borrow.Author.Tests.{lt-ltb, le-ltb}
 use mir.Val.{Fits}
 use mir.Syntax.{w64}
-use lib.ListN.{length, getD, drop, length-replicate, length-append}
+use lib.ListN.{length, getD, length-replicate, length-append}
 use Rattle.refusal.specs.declared.Refusal.{Refusal}
 use Rattle.refusal.specs.Said.{Said, ok, no, ROOM}
-use Rattle.written.specs.Over.{over, lay, Put, zeros}
-use Rattle.written.proofs.Overs.{over-length, lay-zeros}
+use Rattle.written.specs.Over.{over, lay, Put, zeros, padded}
+use Rattle.written.proofs.Overs.{lay-zeros}
 use Rattle.transitions.specs.declared.Transitions.{Transitions}
 use Rattle.transitions.specs.declared.Transitions.the-variants as told
 use Rattle.transitions.specs.Transition.{Transition}
@@ -24,10 +24,9 @@ use Rattle.transitions.proofs.Accepted.{AllInOrder, Listed, listed, ended, walk
 use Rattle.segments.specs.declared.Segments.{Segments}
 use Rattle.segments.specs.declared.Segments.the-variants as found
 use Rattle.segments.specs.Segments.{cutsOf, starts, startsFrom, segments, segmentsFrom}
-use Rattle.segments.specs.Answer.{parseFor, segmentsIn, segmentsOver}
+use Rattle.segments.specs.Answer.{parseFor, segmentsIn}
 use Rattle.segments.specs.Answer as seg
-use Rattle.segments.proofs.Puts.{lay-over}
-use Rattle.segments.proofs.Answers.{length-starts, few-segments, segments-roomy, segments-asked, segments-fit, segments-zeros}
+use Rattle.segments.proofs.Answers.{length-padded, length-starts, few-segments}
 use Rattle.masks.specs.declared.Masks.{Masks}
 use Rattle.masks.specs.declared.Masks.the-variants.{Count, Refused}
 use Rattle.masks.specs.declared.Places.{Places}
@@ -36,7 +35,7 @@ use Rattle.masks.specs.Masks.{wordsFor, maskOf, masksAt, matrix, flat}
 use Rattle.masks.specs.Walk.{Fit, lows}
 use Rattle.masks.specs.Answer.{said, told, parseMasks, counted, masksIn, masksOver, Laid, Matrix, Ready}
 use Rattle.masks.proofs.Packs.{length-pack}
-use Rattle.masks.proofs.Columns.{over-append}
+use Rattle.masks.proofs.Columns.{lay-over}
 
 -- How many transitions a list has: no more than 256
 
@@ -87,13 +86,10 @@ unfolding lows segments starts
 lows-starts [] zs = refl
 lows-starts (c ∷ cs) zs = lows-from c cs zs
 
-lows-over : (ns : List ℕ) (x : Parsed) → isParsed x ≡ true → length (segments (cutsOf (accepted x))) ≤ length ns →
-    lows (segmentsOver ns x) (length (starts (cutsOf (accepted x)))) 0 ≡ starts (cutsOf (accepted x))
-unfolding isParsed accepted segmentsOver
-lows-over ns (parsed ts) h l =
-    ap (λ (a : List ℕ). lows a (length (starts (cutsOf ts))) 0) (over-append (segments (cutsOf ts)) ns l)
-    ∙ lows-starts (cutsOf ts) (drop (length (segments (cutsOf ts))) ns)
-lows-over ns (refused k p) h l = let z : _≡_ {A = ℕ} 0 1 = cc in absurd (omega arith)
+lows-in : (n : ℕ) (x : Parsed) → isParsed x ≡ true → lows (segmentsIn n x) (length (starts (cutsOf (accepted x)))) 0 ≡ starts (cutsOf (accepted x))
+unfolding isParsed accepted segmentsIn padded
+lows-in n (parsed ts) h = lows-starts (cutsOf ts) (zeros (n - length (segments (cutsOf ts))))
+lows-in n (refused k p) h = let z : _≡_ {A = ℕ} 0 1 = cc in absurd (omega arith)
 
 -- How long masks are
 
@@ -113,16 +109,16 @@ few-words ts (p ∷ ps) h = omega (arith, length-append (maskOf ts p) (flat (mas
 
 -- The masks of an accepted list, written over the front of a buffer
 
-is-laid : (c k : ℕ) (x : Parsed) (ns old out : List ℕ) → isParsed x ≡ true → c ≡ length (starts (cutsOf (accepted x))) → k ≡ length (accepted x) →
-    ns ≡ segmentsOver ns x → out ≡ over (flat (matrix (accepted x))) old → Laid (Count c ((k + 63) / 64)) ns ns old out x
+is-laid : (s c k : ℕ) (x : Parsed) (ns old out : List ℕ) → isParsed x ≡ true → c ≡ length (starts (cutsOf (accepted x))) → k ≡ length (accepted x) →
+    ns ≡ segmentsIn s x → out ≡ over (flat (matrix (accepted x))) old → Laid (Count c ((k + 63) / 64)) s ns old out x
 unfolding isParsed accepted counted masksOver
-is-laid c k (parsed ts) ns old out h a b l o =
+is-laid s c k (parsed ts) ns old out h a b l o =
     record {
       says = ap₂ {C = Said} (λ x y. ok (x ∷ y ∷ [])) (a ∙ sym (length-masks ts (starts (cutsOf ts)))) (ap wordsFor b);
       low-high = l;
       leaves = o;
     }
-is-laid c k (refused x p) ns old out h a b l o = let z : _≡_ {A = ℕ} 0 1 = cc in absurd (omega arith)
+is-laid s c k (refused x p) ns old out h a b l o = let z : _≡_ {A = ℕ} 0 1 = cc in absurd (omega arith)
 
 module _ (w ns : List ℕ) (count : ℕ) (d : List ℕ) (r : Ready w ns count d) {n : ℕ} (e : n ≡ length (accepted (parse w))) where
   abbrev ts : List Transition
@@ -138,7 +134,7 @@ module _ (w ns : List ℕ) (count : ℕ) (d : List ℕ) (r : Ready w ns count d)
   of-list = ap (λ (k : ℕ). transFrom w k 0) e ∙ sym (all .is)
 
   of-starts : lows ns count 0 ≡ starts (cutsOf ts)
-  of-starts = ap₂ (λ (a : List ℕ) (k : ℕ). lows a k 0) (r .points) (r .each) ∙ lows-over ns (parse w) (r .good) (omega (arith, length-starts (cutsOf ts), few-segments w, r .long))
+  of-starts = ap₂ (λ (a : List ℕ) (k : ℕ). lows a k 0) (r .points) (r .each) ∙ lows-in (length ns) (parse w) (r .good)
 
   written : flat (masksAt (transFrom w n 0) (lows ns count 0)) ≡ flat (matrix ts)
   written = ap₂ (λ (a : List Transition) (ps : List ℕ). flat (masksAt a ps)) of-list of-starts
@@ -159,108 +155,103 @@ module _ (w ns : List ℕ) (count : ℕ) (d : List ℕ) (r : Ready w ns count d)
   fill-fits = omega (arith, few)
 
   pub fill-done : {k : ℕ} {out : List ℕ} → Put (flat (masksAt (transFrom w n 0) (lows ns count 0))) 0 d k out →
-      Laid (Count count ((n + 63) / 64)) ns ns d out (parse w)
+      Laid (Count count ((n + 63) / 64)) (length ns) ns d out (parse w)
   fill-done p =
-      is-laid count n (parse w) ns d _ (r .good) (r .each) e (r .points)
+      is-laid (length ns) count n (parse w) ns d _ (r .good) (r .each) e (r .points)
       (p .is ∙ ap (λ (a : List ℕ). lay 0 a d) written ∙ lay-over (flat (matrix ts)) d)
 
 pub ruleset filling = (needs, fill-sound, fill-points, fill-room, fill-fits, fill-done)
 
 -- What the answer for segments says of the list
 
-some : (x : Parsed) {k : ℕ} → seg.said (found.Count k) ≡ seg.counted x → (ts : List Transition) × (x ≡ parsed ts) × (k ≡ length (starts (cutsOf ts)))
-unfolding seg.counted
-some (parsed ts) e = (ts, refl, cc)
-some (refused n p) e = let z : _≡_ {A = ℕ} 0 1 = cc in absurd (omega arith)
-
 record Some (n : ℕ) (w : List ℕ) (k : ℕ) : Type 0 where
   good : isParsed (parse w) ≡ true
   size : k ≡ length (starts (cutsOf (accepted (parse w))))
   room : 4096 ≤ n
+  is : parseFor n w ≡ parse w
+
+pub roomy : (n : ℕ) (w : List ℕ) → 4096 ≤ n → parseFor n w ≡ parse w
+unfolding parseFor
+roomy n w h = rw (le-ltb n 4096 h)
+
+pub short : (n : ℕ) (w : List ℕ) → n < 4096 → parseFor n w ≡ refused ROOM 0
+unfolding parseFor
+short n w h = rw (lt-ltb n 4096 h)
+
+some : (x : Parsed) {k : ℕ} → seg.said (found.Count k) ≡ seg.counted x → (isParsed x ≡ true) × (k ≡ length (starts (cutsOf (accepted x))))
+unfolding seg.counted isParsed accepted
+some (parsed ts) e = (refl, cc)
+some (refused n p) e = let z : _≡_ {A = ℕ} 0 1 = cc in absurd (omega arith)
 
 some-of : (n : ℕ) (w : List ℕ) {k : ℕ} → seg.said (found.Count k) ≡ seg.counted (parseFor n w) → Some n w k
-unfolding isParsed accepted
+unfolding seg.counted
 some-of n w {k} e =
-    let s = some (parseFor n w) e in
-    let a = segments-asked n w (s .0) (s .1) in
-    record { good = ap isParsed (a .0); size = s .2 ∙ ap (λ (x : Parsed). length (starts (cutsOf (accepted x)))) (sym (a .0)); room = a .1 }
+    le-cases 4096 n
+    (λ h. let s = some (parse w) (e ∙ ap seg.counted (roomy n w h)) in record { good = s .0; size = s .1; room = h; is = roomy n w h })
+    (λ h. let f = e ∙ ap seg.counted (short n w h) in let z : _≡_ {A = ℕ} 0 1 = cc in absurd (omega arith))
 
-none-of : (x : Parsed) (r : Refusal) (old ns d : List ℕ) → seg.said (found.Refused r) ≡ seg.counted x → ns ≡ segmentsOver old x → Laid (Refused r) old ns d d x
+none-of : (s : ℕ) (x : Parsed) (r : Refusal) (ns d : List ℕ) → seg.said (found.Refused r) ≡ seg.counted x → ns ≡ segmentsIn s x → Laid (Refused r) s ns d d x
 unfolding seg.counted counted masksOver
-none-of (parsed ts) r old ns d e l = let f : _≡_ {A = ℕ} 0 1 = cc in absurd (omega arith)
-none-of (refused k p) r old ns d e l = record { says = e; low-high = l; leaves = refl }
+none-of s (parsed ts) r ns d e l = let f : _≡_ {A = ℕ} 0 1 = cc in absurd (omega arith)
+none-of s (refused k p) r ns d e l = record { says = e; low-high = l; leaves = refl }
+
+length-in : (n : ℕ) (w : List ℕ) → 4096 ≤ n → isParsed (parse w) ≡ true → length (segmentsIn n (parse w)) ≡ n
+unfolding isParsed accepted segmentsIn
+length-in n w h g = go (parse w) g (omega (arith, length-starts (cutsOf (accepted (parse w))), few-segments w))
+  where
+    go : (x : Parsed) → isParsed x ≡ true → length (segments (cutsOf (accepted x))) ≤ n → length (segmentsIn n x) ≡ n
+    go (parsed ts) g l = length-padded n (segments (cutsOf ts)) l
+    go (refused k p) g l = length-replicate n 0
 
 -- The call for a mask of each segment
 
--- what stands at the front of a buffer may be written there again
-over-again : (xs d : List ℕ) → over xs (over xs d) ≡ over xs d
-unfolding over
-over-again [] d = refl
-over-again (x ∷ xs) [] = refl
-over-again (x ∷ xs) (y ∷ d) = ap (λ (l : List ℕ). x ∷ l) (over-again xs d)
-
-segments-again : (d : List ℕ) (x : Parsed) → segmentsOver (segmentsOver d x) x ≡ segmentsOver d x
-unfolding segmentsOver
-segments-again d (parsed ts) = over-again (segments (cutsOf ts)) d
-segments-again d (refused k p) = refl
-
-segments-length : (d : List ℕ) (x : Parsed) → length (segmentsOver d x) ≡ length d
-unfolding segmentsOver
-segments-length d (parsed ts) = over-length (segments (cutsOf ts)) d
-segments-length d (refused k p) = refl
-
 module _ (w a b : List ℕ) where
-  pub no-room : length b < 8192 → Laid (Refused (record { number = ROOM; place = 0 })) a a b b (parseMasks (length a) (length b) w)
-  unfolding parseMasks counted segmentsOver masksOver
-  no-room l = rw (lt-ltb (length b) 8192 l) (record { says = refl; low-high = refl; leaves = refl })
+  pub no-room : {ns : List ℕ} → length b < 8192 → ns ≡ zeros (length a) →
+      Laid (Refused (record { number = ROOM; place = 0 })) (length a) ns b b (parseMasks (length a) (length b) w)
+  unfolding parseMasks counted segmentsIn masksOver
+  no-room l s = rw (lt-ltb (length b) 8192 l) (record { says = refl; low-high = s; leaves = refl })
 
-  module _ (l : 8192 ≤ length b) {got : Segments} {ns : List ℕ} (h : seg.Lays got a ns (parseFor (length a) w)) where
+  module _ (l : 8192 ≤ length b) {got : Segments} {ns : List ℕ} (h : seg.Writes got (length a) ns (parseFor (length a) w)) where
     behind : parseMasks (length a) (length b) w ≡ parseFor (length a) w
     unfolding parseMasks
     behind = rw (le-ltb (length b) 8192 l)
 
     module _ {k : ℕ} (e : got ≡ found.Count k) where
-      of : Some (length a) w k
-      of = some-of (length a) w (ap seg.said (sym e) ∙ h .says)
+      is : Some (length a) w k
+      is = some-of (length a) w (ap seg.said (sym e) ∙ h .says)
 
-      is : parseFor (length a) w ≡ parse w
-      is = segments-roomy (length a) w (of .room)
-
-      stands : ns ≡ segmentsOver a (parse w)
-      stands = h .leaves ∙ ap (segmentsOver a) is
+      same : length ns ≡ length a
+      same = ap length (h .leaves ∙ ap (segmentsIn (length a)) (is .is)) ∙ length-in (length a) w (is .room) (is .good)
 
       pub ready : Ready w ns k b
       ready =
           record {
-            good = of .good;
-            points = stands ∙ sym (segments-again a (parse w)) ∙ ap (λ (d : List ℕ). segmentsOver d (parse w)) (sym stands);
-            long = omega (arith, ap length stands, segments-length a (parse w), of .room);
-            each = of .size;
+            good = is .good;
+            points = h .leaves ∙ ap₂ (λ (n : ℕ) (x : Parsed). segmentsIn n x) (sym same) (is .is);
+            long = omega (arith, same, is .room);
+            each = is .size;
             room = l;
           }
 
-      pub masks-found : {r : Masks} {out : List ℕ} → Laid r ns ns b out (parse w) → Laid r a ns b out (parseMasks (length a) (length b) w)
-      masks-found m = rw (behind, is) (record { says = m .says; low-high = stands; leaves = m .leaves })
+      pub masks-found : {r : Masks} {out : List ℕ} → Laid r (length ns) ns b out (parse w) → Laid r (length a) ns b out (parseMasks (length a) (length b) w)
+      masks-found m = rw (behind, is .is, ← same) m
 
-    pub masks-refused : {r : Refusal} → got ≡ found.Refused r → Laid (Refused r) a ns b b (parseMasks (length a) (length b) w)
-    masks-refused {r} e = rw behind (none-of (parseFor (length a) w) r a ns b (ap seg.said (sym e) ∙ h .says) (h .leaves))
+    pub masks-refused : {r : Refusal} → got ≡ found.Refused r → Laid (Refused r) (length a) ns b b (parseMasks (length a) (length b) w)
+    masks-refused {r} e = rw behind (none-of (length a) (parseFor (length a) w) r ns b (ap seg.said (sym e) ∙ h .says) (h .leaves))
 
 pub ruleset answering = (needs, no-room, ready, masks-found, masks-refused)
 
 -- What an accepted list had room for
 
-behind-room : (s n : ℕ) (w : List ℕ) (ts : List Transition) → parseMasks s n w ≡ parsed ts → (parseFor s w ≡ parsed ts) × (8192 ≤ n)
-unfolding parseMasks
-behind-room s n w ts e =
-    le-cases 8192 n
-    (λ h. (rw (le-ltb n 8192 h) at e, h))
-    (λ h. let f = rw (lt-ltb n 8192 h) at e in let z : _≡_ {A = ℕ} 0 1 = cc in absurd (omega arith))
-
 pub masks-asked : (s n : ℕ) (w : List ℕ) (ts : List Transition) → parseMasks s n w ≡ parsed ts → (parse w ≡ parsed ts) × (8192 ≤ n)
-masks-asked s n w ts e = let a = behind-room s n w ts e in (segments-asked s w ts (a .0) .0, a .1)
-
-pub low-high-fit : (s n : ℕ) (w : List ℕ) (ts : List Transition) → parseMasks s n w ≡ parsed ts → length (segments (cutsOf ts)) ≤ s
-low-high-fit s n w ts e = segments-fit s w ts (behind-room s n w ts e .0)
+unfolding parseMasks
+masks-asked s n w ts e =
+    le-cases 8192 n
+    (λ h.
+    le-cases 4096 s
+    (λ g. (sym (roomy s w g) ∙ (rw (le-ltb n 8192 h) at e), h))
+    (λ g. let f = sym (short s w g) ∙ (rw (le-ltb n 8192 h) at e) in let z : _≡_ {A = ℕ} 0 1 = cc in absurd (omega arith)))
+    (λ h. let f = rw (lt-ltb n 8192 h) at e in let z : _≡_ {A = ℕ} 0 1 = cc in absurd (omega arith))
 
 -- no list has more than 256 transitions and 2,047 segments
 pub few-of : (w : List ℕ) (ts : List Transition) → parse w ≡ parsed ts → (length ts ≤ 256) × (length (starts (cutsOf ts)) ≤ 2047)
@@ -283,17 +274,16 @@ unfolding masksOver masksIn
 over-zeros f n (parsed ts) h = sym (lay-over (flat (f ts)) (zeros n)) ∙ lay-zeros n (flat (f ts)) (h ts refl)
 over-zeros f n (refused k p) h = refl
 
-pub matrix-cleared : (w a b : List ℕ) {o d : List ℕ} → o ≡ zeros (length a) → d ≡ zeros (length b) → {r : Masks} {ns out : List ℕ} →
-    Laid r o ns d out (parseMasks (length o) (length d) w) → Matrix r (length a) ns (length b) out (parseMasks (length a) (length b) w)
-matrix-cleared w a b {o} {d} y z {r} {ns} {out} m =
-    let i : length o ≡ length a = ap length y ∙ length-replicate (length a) 0 in
-    let j : length d ≡ length b = ap length z ∙ length-replicate (length b) 0 in
+pub matrix-cleared : (w a b : List ℕ) {d : List ℕ} → d ≡ zeros (length b) → {r : Masks} {ns out : List ℕ} → Laid r (length a) ns d out (parseMasks (length a) (length d) w) →
+    Matrix r (length a) ns (length b) out (parseMasks (length a) (length b) w)
+matrix-cleared w a b {d} z {r} {ns} {out} m =
+    let size : length d ≡ length b = ap length z ∙ length-replicate (length b) 0 in
     let x : Parsed = parseMasks (length a) (length b) w in
-    let g : Laid r o ns d out x = subst (Laid r o ns d out) (ap₂ (λ (s n : ℕ). parseMasks s n w) i j) m in
+    let g : Laid r (length a) ns d out x = subst (λ (n : ℕ). Laid r (length a) ns d out (parseMasks (length a) n w)) size m in
     record {
       says = g .says;
-      low-high = g .low-high ∙ ap (λ (l : List ℕ). segmentsOver l x) y ∙ segments-zeros (length a) x (low-high-fit (length a) (length b) w);
-      leaves = g .leaves ∙ ap (λ (l : List ℕ). masksOver matrix l x) z ∙ over-zeros matrix (length b) x (matrix-fits (length a) (length b) w);
+      low-high = g .low-high;
+      leaves = g .leaves ∙ ap (λ (o : List ℕ). masksOver matrix o x) z ∙ over-zeros matrix (length b) x (matrix-fits (length a) (length b) w);
     }
 
 pub ruleset clearing = (needs, length-replicate, matrix-cleared)

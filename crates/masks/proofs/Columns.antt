@@ -18,7 +18,6 @@ use Rattle.written.proofs.Going.{Going, going-start, going-done, going-put}
 use Rattle.transitions.specs.Transition.{Transition, origin, holds, holdAt, inOrder}
 use Rattle.transitions.specs.Bytes.{sizeAt, shapeOf, transOf}
 use Rattle.transitions.specs.Walk.{transAt, nextAt, transFrom}
-use Rattle.segments.proofs.Puts.{lay-over}
 use Rattle.masks.specs.Masks.{bit, wordOf, pack, wordsFor, maskOf, masksAt, flat}
 use Rattle.masks.specs.Walk.{Fit, nextOf, byLow, Covers, lows, wordsAt, column, Columned}
 use Rattle.masks.proofs.Packs.{wordOf-lt}
@@ -158,6 +157,10 @@ small-over ts (p ∷ ps) (x ∷ d) l zero h r =
     let m : length (holdAt ts p) ≤ 63 = omega (arith, length-holds ts p) in
     le-trans (wordOf-lt (holdAt ts p)) (pow-mono m)
 small-over ts (p ∷ ps) (x ∷ d) l (suc i) h r = small-over ts ps d l i (omega arith) (omega arith)
+
+pub lay-over : (xs d : List ℕ) → lay 0 xs d ≡ over xs d
+unfolding lay
+lay-over xs d = refl
 
 one-word : (ts : List Transition) (ps : List ℕ) → 0 < length ts → length ts ≤ 64 → flat (masksAt ts ps) ≡ wordsAt ts ps
 unfolding flat masksAt wordsAt maskOf pack

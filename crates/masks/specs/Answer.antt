@@ -12,7 +12,7 @@ use Rattle.written.specs.Over.{over, zeros, padded}
 use Rattle.transitions.specs.Transition.{Transition}
 use Rattle.transitions.specs.Read.{Parsed, parsed, refused, parse, isParsed, accepted}
 use Rattle.segments.specs.Segments.{cutsOf, starts}
-use Rattle.segments.specs.Answer.{parseFor, segmentsIn, segmentsOver}
+use Rattle.segments.specs.Answer.{parseFor, segmentsIn}
 use Rattle.masks.specs.declared.Masks.{Masks}
 use Rattle.masks.specs.declared.Masks.the-variants.{Count, Refused}
 use Rattle.masks.specs.declared.Places.{Places}
@@ -46,11 +46,11 @@ unfoldable pub masksOver : (List Transition → List (List ℕ)) → List ℕ �
 masksOver f old (parsed ts) = over (flat (f ts)) old
 masksOver f old (refused k p) = old
 
--- the answer says it, and the buffers hold it: the segments, and a mask for each, over what the buffers held ..
-pub record Laid (r : Masks) (segmentsWere segments masksWere masks : List ℕ) (x : Parsed) : Type 0 where
+-- the answer says it, and the buffers hold it: the segments, and a mask for each, over what the buffer for masks held ..
+pub record Laid (r : Masks) (s : ℕ) (segments old masks : List ℕ) (x : Parsed) : Type 0 where
   pub says : said r ≡ counted matrix x
-  pub low-high : segments ≡ segmentsOver segmentsWere x
-  pub leaves : masks ≡ masksOver matrix masksWere x
+  pub low-high : segments ≡ segmentsIn s x
+  pub leaves : masks ≡ masksOver matrix old x
 
 -- .. or with zeros behind them ..
 pub record Matrix (r : Masks) (s : ℕ) (segments : List ℕ) (n : ℕ) (masks : List ℕ) (x : Parsed) : Type 0 where
@@ -65,7 +65,8 @@ pub record Distinct (r : Masks) (s : ℕ) (segments : List ℕ) (n : ℕ) (masks
   pub each : masks ≡ masksIn matrix n x
   pub leaves : distinct ≡ masksIn distinctOf d x
 
--- Where each segment's mask stands among the distinct ones, which row building asks for
+-- Where each segment's mask stands among the distinct ones, which row building asks for. The buffers for masks, for distinct masks and for
+-- places held `old`, `olds` and `oldest`
 
 -- how many segments, how many distinct masks, and of how many words each, or a refusal
 abbrev pub told : Places → Said
@@ -84,19 +85,17 @@ unfoldable pub placesOver : List ℕ → Parsed → List ℕ
 placesOver old (parsed ts) = over (placesOf ts) old
 placesOver old (refused k p) = old
 
--- each buffer over what it held
-pub record Placed (r : Places) (segmentsWere segments masksWere masks distinctWere distinct placesWere places : List ℕ) (x : Parsed) : Type 0 where
+pub record Placed (r : Places) (s : ℕ) (segments old masks olds distinct oldest places : List ℕ) (x : Parsed) : Type 0 where
   pub says : told r ≡ foundIn x
-  pub low-high : segments ≡ segmentsOver segmentsWere x
-  pub each : masks ≡ masksOver matrix masksWere x
-  pub once : distinct ≡ masksOver distinctOf distinctWere x
-  pub leaves : places ≡ placesOver placesWere x
+  pub low-high : segments ≡ segmentsIn s x
+  pub each : masks ≡ masksOver matrix old x
+  pub once : distinct ≡ masksOver distinctOf olds x
+  pub leaves : places ≡ placesOver oldest x
 
--- On the way there: the segments of an accepted list stand, since written over the buffer they change nothing, and the buffer for masks is
--- long enough
+-- On the way there: the segments of an accepted list stand, and the buffer for masks is long enough
 pub record Ready (w segments : List ℕ) (count : ℕ) (masks : List ℕ) : Type 0 where
   pub good : isParsed (parse w) ≡ true
-  pub points : segments ≡ segmentsOver segments (parse w)
+  pub points : segments ≡ segmentsIn (length segments) (parse w)
   pub long : 4096 ≤ length segments
   pub each : count ≡ length (starts (cutsOf (accepted (parse w))))
   pub room : 8192 ≤ length masks

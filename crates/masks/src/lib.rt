@@ -430,7 +430,7 @@ fn transition_count(list: &[u8]) -> usize
 // The masks of the segments that stand, over the front of a buffer.
 fn fill_masks(list: &[u8], segments: &[u32], count: usize, masks: &mut [u64]) -> Masks
     requires { ⌜ Ready (now list) (now segments) count (now masks) ⌝ }
-    ensures { λ r. ⌜ Laid r (now (segments .entry)) (now (segments .entry)) (now (masks .entry)) (now (masks .exit)) (parse (now (list .entry))) ⌝ }
+    ensures { λ r. ⌜ Laid r (length (now (segments .entry))) (now (segments .entry)) (now (masks .entry)) (now (masks .exit)) (parse (now (list .entry))) ⌝ }
 {
     let n = transition_count(list);
     put_masks(list, n, segments, count, masks);
@@ -440,28 +440,28 @@ fn fill_masks(list: &[u8], segments: &[u32], count: usize, masks: &mut [u64]) ->
     }
 }
 
-// The segments of a list as low, high, and for each its mask, over the fronts of the buffers: behind them, and where the list is refused, these
-// stay as they were lent. Row building asks for them so, since it would take longer to clear the buffers than to build short rows.
+// The segments of a list as low, high, and for each its mask, over the front of the buffer for masks: behind them, and where the list is
+// refused, it stays as it was lent. Row building asks for them so, since it would take longer to clear the buffer than to build short rows.
 pub fn lay_masks(list: &[u8], segments: &mut [u32], masks: &mut [u64]) -> Masks
-    ensures { λ r. ⌜ Laid r (now (segments .entry)) (now (segments .exit)) (now (masks .entry)) (now (masks .exit)) (parseMasks (length (now (segments .entry))) (length (now (masks .entry))) (now (list .entry))) ⌝ }
+    ensures { λ r. ⌜ Laid r (length (now (segments .entry))) (now (segments .exit)) (now (masks .entry)) (now (masks .exit)) (parseMasks (length (now (segments .entry))) (length (now (masks .entry))) (now (list .entry))) ⌝ }
 {
     if masks.len() < WORDS {
+        written::clear(segments);
         return Masks::Refused(Refusal {
             number: ROOM,
             place: 0,
         });
     }
-    match segments::lay_segments(list, segments) {
+    match segments::char_segments(list, segments) {
         Segments::Count(count) => fill_masks(list, segments, count, masks),
         Segments::Refused(r) => Masks::Refused(r),
     }
 }
 
-// The same, into buffers of zeros. Refused: every number of both buffers is 0. Accepted: behind the answer's numbers there are zeros.
+// The same, into a buffer of zeros. Refused: every number of both buffers is 0. Accepted: behind the answer's numbers there are zeros.
 pub fn segment_mask_matrix(list: &[u8], segments: &mut [u32], masks: &mut [u64]) -> Masks
     ensures { λ r. ⌜ Matrix r (length (now (segments .entry))) (now (segments .exit)) (length (now (masks .entry))) (now (masks .exit)) (parseMasks (length (now (segments .entry))) (length (now (masks .entry))) (now (list .entry))) ⌝ }
 {
-    written::clear(segments);
     written::clear_words(masks);
     lay_masks(list, segments, masks)
 }

@@ -18,7 +18,7 @@ use Rattle.written.proofs.Overs.{over-length, lay-zeros}
 use Rattle.transitions.specs.Transition.{Transition}
 use Rattle.transitions.specs.Read.{Parsed, parsed, refused, parse, accepted}
 use Rattle.segments.specs.Segments.{Asc, cutsOf, starts, startsFrom, segments, segmentsFrom}
-use Rattle.segments.specs.Answer.{segmentsOver}
+use Rattle.segments.specs.Answer.{segmentsIn}
 use Rattle.segments.proofs.Answers.{length-starts, few-segments}
 use Rattle.masks.specs.declared.Places.{Places}
 use Rattle.masks.specs.declared.Places.the-variants as place
@@ -26,9 +26,9 @@ use Rattle.masks.specs.Masks.{maskOf, masksAt, matrix, isZero, distinctOf, plac
 use Rattle.masks.specs.Answer.{told, parseDistinct, parsePlaces, foundIn, masksOver, placesOver, Placed}
 use Rattle.masks.proofs.Columns.{over-append}
 use Rattle.masks.proofs.Keeps.{place-some, place-none}
-use Rattle.masks.proofs.Answers.{length-masks, low-high-fit}
+use Rattle.masks.proofs.Answers.{length-masks}
 use Rattle.distinct_masks.proofs.Distincts.{length-places, few-distinct}
-use Rattle.distinct_masks.proofs.Answers.{accepted-list, distinct-asked, roomy-places}
+use Rattle.distinct_masks.proofs.Answers.{accepted-list, roomy-places}
 use Rattle.row_laws.specs.Row.{Row, DEAD, Sorted, numbers, rowFrom, rowOver, joinTo, join, partFrom, values, asciiPart, widePart}
 use Rattle.row_laws.specs.Build.{given, targetOf, contOf, targetRow, contRow, asciiOf, wideOf, escapeOf}
 use Rattle.row_laws.proofs.Built as built
@@ -37,7 +37,7 @@ use Rattle.row_laws.proofs.Parts.{length-values}
 use Rattle.lookup_laws.specs.Looks.{goalAt}
 use Rattle.rows.specs.declared.Rows.{Rows}
 use Rattle.rows.specs.declared.Rows.the-variants.{Built, Refused}
-use Rattle.rows.specs.Answer.{said, Lent, lent, tooShort, withRows, parseRows, counted, asciiIn, wideIn, escapeIn, segmentsLeft, masksLeft, Builds}
+use Rattle.rows.specs.Answer.{said, Lent, lent, tooShort, withRows, parseRows, counted, asciiIn, wideIn, escapeIn, masksLeft, Builds}
 use Rattle.rows.specs.Aimed.{rangeOf, goalOf, noGoal, aimed, living, joined, Standing, Filled, differs, refusalOf, judged, allowed, Judged}
 use Rattle.rows.proofs.Living.{living-joined, look-living, part-joined, part-all}
 use Rattle.rows.proofs.Joining.{few-joined}
@@ -144,29 +144,29 @@ found-none (refused k p) e = cc
 -- The segments, masks and places of a list that may be refused
 
 module _ (w sg mk ds pl : List ℕ) (t c : ℕ) (short : Bool) (room : 2048 ≤ length pl) {found : Places} {sg₁ mk₁ ds₁ ps : List ℕ}
-    (h : Placed found sg sg₁ mk mk₁ ds ds₁ pl ps (parsePlaces (length sg) (length mk) (length ds) (length pl) w)) {got : Places} (g : got ≡ allowed t c short found) where
+    (h : Placed found (length sg) sg₁ mk mk₁ ds ds₁ pl ps (parsePlaces (length sg) (length mk) (length ds) (length pl) w)) {got : Places} (g : got ≡ allowed t c short found) where
   abbrev read : Parsed
   read = parseDistinct (length sg) (length mk) (length ds) w
 
   abbrev after : Parsed
   after = judged t c short read
 
-  placed : Placed found sg sg₁ mk mk₁ ds ds₁ pl ps read
+  placed : Placed found (length sg) sg₁ mk mk₁ ds ds₁ pl ps read
   placed = rw (roomy-places (length sg) (length mk) (length ds) (length pl) w room) at h
 
   says : {other : Places} → got ≡ other → told other ≡ foundIn after
   says i = ap told (sym i ∙ g) ∙ allowed-says t c short found read (placed .says)
 
   pub judge-found : {n m k : ℕ} → got ≡ place.Found n m k →
-      Judged (place.Found n m k) sg sg₁ mk mk₁ ds ds₁ pl ps (judged t c short (parseDistinct (length sg) (length mk) (length ds) w))
-  unfolding segmentsOver masksOver placesOver segmentsLeft masksLeft
+      Judged (place.Found n m k) (length sg) sg₁ mk mk₁ ds ds₁ pl ps (judged t c short (parseDistinct (length sg) (length mk) (length ds) w))
+  unfolding segmentsIn masksOver placesOver masksLeft
   judge-found {n} {m} {k} i =
       let f = found-list after (says i) in
       let b : read ≡ parsed (f .0) = judged-back t c short read (f .1) .0 in
-      let q : Placed found sg sg₁ mk mk₁ ds ds₁ pl ps (parsed (f .0)) = rw b at placed in
+      let q : Placed found (length sg) sg₁ mk mk₁ ds ds₁ pl ps (parsed (f .0)) = rw b at placed in
       record {
         says = says i;
-        low-high = q .low-high ∙ ap (segmentsLeft sg) (sym (f .1));
+        low-high = q .low-high ∙ ap (segmentsIn (length sg)) (sym (f .1));
         each = q .each ∙ ap (masksLeft matrix mk) (sym (f .1));
         once = q .once ∙ ap (masksLeft distinctOf ds) (sym (f .1));
         where-each = λ ts e. let same : f .0 ≡ ts = cc in q .leaves ∙ ap (λ (us : List Transition). over (placesOf us) pl) same;
@@ -174,13 +174,13 @@ module _ (w sg mk ds pl : List ℕ) (t c : ℕ) (short : Bool) (room : 2048 ≤ 
 
   pub judge-none : {r : Refusal} {sg₂ mk₂ ds₂ : List ℕ} → got ≡ place.Refused r → (sg₂ ≡ zeros (length sg₁)) × (mk₂ ≡ zeros (length mk₁)) × (ds₂ ≡ zeros (length ds₁)) →
       length sg₁ ≡ length sg → length mk₁ ≡ length mk → length ds₁ ≡ length ds →
-      Judged (place.Refused r) sg sg₂ mk mk₂ ds ds₂ pl ps (judged t c short (parseDistinct (length sg) (length mk) (length ds) w))
-  unfolding segmentsLeft masksLeft
+      Judged (place.Refused r) (length sg) sg₂ mk mk₂ ds ds₂ pl ps (judged t c short (parseDistinct (length sg) (length mk) (length ds) w))
+  unfolding segmentsIn masksLeft
   judge-none {r} i v a b e =
       let n : after ≡ refused (r .number) (r .place) = found-none after (says i) in
       record {
         says = says i;
-        low-high = v .0 ∙ ap zeros a ∙ ap (segmentsLeft sg) (sym n);
+        low-high = v .0 ∙ ap zeros a ∙ ap (segmentsIn (length sg)) (sym n);
         each = v .1 ∙ ap zeros b ∙ ap (masksLeft matrix mk) (sym n);
         once = v .2 ∙ ap zeros e ∙ ap (masksLeft distinctOf ds) (sym n);
         where-each = λ ts q. let z : _≡_ {A = ℕ} 0 1 = cc in absurd (omega arith);
@@ -281,7 +281,7 @@ stands n {xs} {ys} e o s h = e ∙ ap (lay 0 xs) o ∙ lay-zeros n xs h ∙ ap (
 module _ (w targets conts sg mk ds ai ws es : List ℕ) {short : Bool} {ai₁ ws₁ es₁ : List ℕ}
     (z : (short ≡ (ltb (length ai) 128 || ltb (length ws) 6144 || ltb (length es) 6144)) × (ai₁ ≡ zeros (length ai)) × (ws₁ ≡ zeros (length ws)) × (es₁ ≡ zeros (length es)))
     {got : Places} {sg₁ mk₁ ds₁ pl ps : List ℕ}
-    (h : Judged got sg sg₁ mk mk₁ ds ds₁ pl ps (judged (length targets) (length conts) short (parseDistinct (length sg) (length mk) (length ds) w))) where
+    (h : Judged got (length sg) sg₁ mk mk₁ ds ds₁ pl ps (judged (length targets) (length conts) short (parseDistinct (length sg) (length mk) (length ds) w))) where
   abbrev l : Lent
   l = lent sg mk ds ai ws es
 
@@ -294,8 +294,8 @@ module _ (w targets conts sg mk ds ai ws es : List ℕ) {short : Bool} {ai₁ ws
   x-is : judged (length targets) (length conts) short y ≡ x
   x-is = ap (λ (b : Bool). judged (length targets) (length conts) b y) (z .0) ∙ judged-is l targets conts y
 
-  at-rows : Judged got sg sg₁ mk mk₁ ds ds₁ pl ps x
-  at-rows = subst (Judged got sg sg₁ mk mk₁ ds ds₁ pl ps) x-is h
+  at-rows : Judged got (length sg) sg₁ mk mk₁ ds ds₁ pl ps x
+  at-rows = subst (Judged got (length sg) sg₁ mk mk₁ ds ds₁ pl ps) x-is h
 
   pub build-refused : {r : Refusal} → got ≡ place.Refused r →
       Builds (Refused r) (lent sg mk ds ai ws es) sg₁ mk₁ ds₁ ai₁ ws₁ es₁ targets conts (parseRows (lent sg mk ds ai ws es) w targets conts)
@@ -322,9 +322,9 @@ module _ (w targets conts sg mk ds ai ws es : List ℕ) {short : Bool} {ai₁ ws
     count : c ≡ length (starts (cutsOf ts))
     count = of .2
 
-    over-segments : sg₁ ≡ over (segments (cutsOf ts)) sg
-    unfolding segmentsLeft
-    over-segments = at-rows .low-high ∙ ap (segmentsLeft sg) (of .1)
+    low-high : sg₁ ≡ padded (length sg) (segments (cutsOf ts))
+    unfolding segmentsIn
+    low-high = at-rows .low-high ∙ ap (segmentsIn (length sg)) (of .1)
 
     over-places : ps ≡ over (placesOf ts) pl
     over-places = at-rows .where-each ts (of .1)
@@ -335,11 +335,6 @@ module _ (w targets conts sg mk ds ai ws es : List ℕ) {short : Bool} {ai₁ ws
 
     roomy : (128 ≤ length ai) × (6144 ≤ length ws) × (6144 ≤ length es)
     roomy = long (length ai) (length ws) (length es) (well .3)
-
-    low-high : sg₁ ≡ segments (cutsOf ts) ++ drop (length (segments (cutsOf ts))) sg
-    low-high =
-        over-segments
-        ∙ over-append (segments (cutsOf ts)) sg (low-high-fit (length sg) (length mk) w ts (distinct-asked (length sg) (length mk) (length ds) w ts (well .0) .0))
 
     build-few : c ≤ 2047
     unfolding accepted
@@ -354,14 +349,16 @@ module _ (w targets conts sg mk ds ai ws es : List ℕ) {short : Bool} {ai₁ ws
     places = over-places ∙ over-append (placesOf ts) pl few-places
 
     sorted : (e : Bool) (vs : List ℕ) → Sorted 0 (aimed e targets vs sg₁ ps c 0)
+    unfolding padded
     sorted e vs =
         subst (λ (n : ℕ). Sorted 0 (aimed e targets vs sg₁ ps n 0)) (sym (count))
-        (sorted-over e ts targets vs sg₁ ps (cutsOf ts) (drop (length (segments (cutsOf ts))) sg) low-high (built.asc-cuts ts))
+        (sorted-over e ts targets vs sg₁ ps (cutsOf ts) (zeros (length sg - length (segments (cutsOf ts)))) low-high (built.asc-cuts ts))
 
     pub build-fills : Standing targets sg₁ ps c ai₁ ws₁ es₁
+    unfolding padded
     build-fills =
         record {
-          points = omega (arith, count, length-starts (cutsOf ts), ap length low-high, length-append (segments (cutsOf ts)) (drop (length (segments (cutsOf ts))) sg));
+          points = omega (arith, count, length-starts (cutsOf ts), ap length low-high, length-append (segments (cutsOf ts)) (zeros (length sg - length (segments (cutsOf ts)))));
           each = omega (arith, build-few, long-places, ap length over-places, over-length (placesOf ts) pl);
           few = build-few;
           narrow = omega (arith, roomy .0, zeros-length (length ai) (z .1));
@@ -387,17 +384,17 @@ module _ (w targets conts sg mk ds ai ws es : List ℕ) {short : Bool} {ai₁ ws
         ap₂ (λ (t v : ℕ). pick (eqb t DEAD) NONE v) (target-is [] c) (given-place NONE (distinctOf ts) conts (maskOf ts c) some-conts)
 
     of-targets : (vs : List ℕ) → living DEAD (aimed false targets vs sg₁ ps c 0) ≡ targetRow ts targets
-    unfolding targetRow
+    unfolding targetRow padded
     of-targets vs =
         ap (λ (n : ℕ). living DEAD (aimed false targets vs sg₁ ps n 0)) (count)
-        ∙ row-over false ts targets vs sg₁ ps (λ p. targetOf ts targets (maskOf ts p)) (target-is vs) (cutsOf ts) (drop (length (segments (cutsOf ts))) sg)
+        ∙ row-over false ts targets vs sg₁ ps (λ p. targetOf ts targets (maskOf ts p)) (target-is vs) (cutsOf ts) (zeros (length sg - length (segments (cutsOf ts))))
         (drop (length (placesOf ts)) pl) low-high places
 
     of-conts : living NONE (aimed true targets conts sg₁ ps c 0) ≡ contRow ts targets conts
-    unfolding contRow
+    unfolding contRow padded
     of-conts =
         ap (λ (n : ℕ). living NONE (aimed true targets conts sg₁ ps n 0)) (count)
-        ∙ row-over true ts targets conts sg₁ ps (λ p. contOf ts targets conts (maskOf ts p)) cont-is (cutsOf ts) (drop (length (segments (cutsOf ts))) sg)
+        ∙ row-over true ts targets conts sg₁ ps (λ p. contOf ts targets conts (maskOf ts p)) cont-is (cutsOf ts) (zeros (length sg - length (segments (cutsOf ts))))
         (drop (length (placesOf ts)) pl) low-high places
 
     asciis : asciiPart (aimed false targets [] sg₁ ps c 0) ≡ asciiOf ts targets
@@ -412,7 +409,7 @@ module _ (w targets conts sg mk ds ai ws es : List ℕ) {short : Bool} {ai₁ ws
     pub build-done : {r : Rows} {ai₂ ws₂ es₂ : List ℕ} →
         Filled r (aimed false targets [] sg₁ ps c 0) (joined false targets conts sg₁ ps c) (joined true targets conts sg₁ ps c) ai₁ ai₂ ws₁ ws₂ es₁ es₂ →
         Builds r (lent sg mk ds ai ws es) sg₁ mk₁ ds₁ ai₂ ws₂ es₂ targets conts (parseRows (lent sg mk ds ai ws es) w targets conts)
-    unfolding segmentsLeft masksLeft counted asciiIn wideIn escapeIn
+    unfolding segmentsIn masksLeft counted asciiIn wideIn escapeIn
     build-done f =
         let fit-a : length (asciiPart (aimed false targets [] sg₁ ps c 0)) ≤ length ai =
         omega (arith, length-values (goalAt DEAD (aimed false targets [] sg₁ ps c 0)) 0 128, roomy .0) in
@@ -421,7 +418,7 @@ module _ (w targets conts sg mk ds ai ws es : List ℕ) {short : Bool} {ai₁ ws
         rw (of .1)
         (record {
           says = f .says ∙ ap₂ {C = Said} (λ x y. ok (length (numbers x) ∷ length (numbers y) ∷ [])) wides escapes;
-          low-high = over-segments;
+          low-high = low-high;
           each = at-rows .each ∙ ap (masksLeft matrix mk) (of .1);
           once = at-rows .once ∙ ap (masksLeft distinctOf ds) (of .1);
           narrow = stands (length ai) (f .narrow) (z .1) asciis fit-a;

@@ -13,13 +13,14 @@ use Rattle.table.specs.Table.{Range}
 use Rattle.written.specs.Over.{over, lay, Put}
 use Rattle.transitions.specs.Transition.{Transition}
 use Rattle.transitions.specs.Read.{Parsed, parsed, refused}
+use Rattle.segments.specs.Answer.{segmentsIn}
 use Rattle.masks.specs.declared.Places.{Places}
 use Rattle.masks.specs.declared.Places.the-variants.{Found, Refused}
 use Rattle.masks.specs.Masks.{matrix, distinctOf, placesOf}
 use Rattle.masks.specs.Answer.{told, foundIn}
 use Rattle.row_laws.specs.Row.{Row, DEAD, Sorted, numbers, joinTo, partFrom, asciiPart}
 use Rattle.rows.specs.declared.Rows.{Rows}
-use Rattle.rows.specs.Answer.{said, segmentsLeft, masksLeft}
+use Rattle.rows.specs.Answer.{said, masksLeft}
 
 abbrev pub rangeOf : ℕ → ℕ → ℕ → Range
 rangeOf low high goal = record { low = low; high = high; goal = goal }
@@ -106,9 +107,9 @@ allowed t c short (Found segments masks words) =
 allowed t c short (Refused r) = Refused r
 
 -- the segments, masks and places of a list that is not refused stand; of one that is, the buffers for segments and masks hold zeros
-pub record Judged (r : Places) (segmentsWere segments masksWere masks distinctWere distinct placesWere places : List ℕ) (x : Parsed) : Type 0 where
+pub record Judged (r : Places) (s : ℕ) (segments old masks olds distinct oldest places : List ℕ) (x : Parsed) : Type 0 where
   pub says : told r ≡ foundIn x
-  pub low-high : segments ≡ segmentsLeft segmentsWere x
-  pub each : masks ≡ masksLeft matrix masksWere x
-  pub once : distinct ≡ masksLeft distinctOf distinctWere x
-  pub where-each : (ts : List Transition) → x ≡ parsed ts → places ≡ over (placesOf ts) placesWere
+  pub low-high : segments ≡ segmentsIn s x
+  pub each : masks ≡ masksLeft matrix old x
+  pub once : distinct ≡ masksLeft distinctOf olds x
+  pub where-each : (ts : List Transition) → x ≡ parsed ts → places ≡ over (placesOf ts) oldest

@@ -11,7 +11,7 @@ use Rattle.refusal.specs.Lists.{pick}
 use Rattle.written.specs.Over.{over, zeros, padded}
 use Rattle.transitions.specs.Transition.{Transition}
 use Rattle.transitions.specs.Read.{Parsed, parsed, refused}
-use Rattle.segments.specs.Segments.{cutsOf, segments}
+use Rattle.segments.specs.Answer.{segmentsIn}
 use Rattle.masks.specs.Masks.{matrix, distinctOf, flat}
 use Rattle.masks.specs.Answer.{parseDistinct}
 use Rattle.row_laws.specs.Row.{Row, numbers}
@@ -24,9 +24,9 @@ abbrev pub said : Rows → Said
 said (Built wide escape) = ok (wide ∷ escape ∷ [])
 said (Refused r) = no (r .number) (r .place)
 
--- how many numbers each buffer for rows has, and what the three hold that the call works in
+-- how many numbers each lent buffer has; of the two for masks, which the call works in, what they hold
 pub record Lent : Type 0 where
-  pub segments : List ℕ
+  pub segments : ℕ
   pub masks : List ℕ
   pub distinct : List ℕ
   pub ascii : ℕ
@@ -35,7 +35,7 @@ pub record Lent : Type 0 where
 
 abbrev pub lent : List ℕ → List ℕ → List ℕ → List ℕ → List ℕ → List ℕ → Lent
 lent segments masks distinct ascii wide escape =
-    record { segments = segments; masks = masks; distinct = distinct; ascii = length ascii; wide = length wide; escape = length escape }
+    record { segments = length segments; masks = masks; distinct = distinct; ascii = length ascii; wide = length wide; escape = length escape }
 
 -- "targets or continuations differ in number from distinct masks" is where this fails
 abbrev pub asMany : List Transition → List ℕ → List ℕ → Bool
@@ -53,7 +53,7 @@ withRows l targets conts (refused k p) = refused k p
 
 -- "A row call: ROOM for the buffers above, the records, TARGETS, ROOM for these."
 abbrev pub parseRows : Lent → List ℕ → List ℕ → List ℕ → Parsed
-parseRows l w targets conts = withRows l targets conts (parseDistinct (length (l .segments)) (length (l .masks)) (length (l .distinct)) w)
+parseRows l w targets conts = withRows l targets conts (parseDistinct (l .segments) (length (l .masks)) (length (l .distinct)) w)
 
 -- the numbers of both rows, or the refusal
 unfoldable pub counted : List ℕ → List ℕ → Parsed → Said
@@ -74,11 +74,7 @@ unfoldable pub escapeIn : ℕ → List ℕ → List ℕ → Parsed → List ℕ
 escapeIn n targets conts (parsed ts) = padded n (numbers (escapeOf ts targets conts))
 escapeIn n targets conts (refused k p) = zeros n
 
--- segments and masks are no part of the rows: they stand at the front of a buffer that is lent to work in, and behind them it is as it was. Refused: zeros
-unfoldable pub segmentsLeft : List ℕ → Parsed → List ℕ
-segmentsLeft old (parsed ts) = over (segments (cutsOf ts)) old
-segmentsLeft old (refused k p) = zeros (length old)
-
+-- the masks are no part of the rows: they stand at the front of a buffer that is lent to work in, and behind them it is as it was. Refused: zeros
 unfoldable pub masksLeft : (List Transition → List (List ℕ)) → List ℕ → Parsed → List ℕ
 masksLeft f old (parsed ts) = over (flat (f ts)) old
 masksLeft f old (refused k p) = zeros (length old)
@@ -86,7 +82,7 @@ masksLeft f old (refused k p) = zeros (length old)
 -- the answer says it, and the six buffers hold it
 pub record Builds (r : Rows) (l : Lent) (segments masks distinct ascii wide escape : List ℕ) (targets conts : List ℕ) (x : Parsed) : Type 0 where
   pub says : said r ≡ counted targets conts x
-  pub low-high : segments ≡ segmentsLeft (l .segments) x
+  pub low-high : segments ≡ segmentsIn (l .segments) x
   pub each : masks ≡ masksLeft matrix (l .masks) x
   pub once : distinct ≡ masksLeft distinctOf (l .distinct) x
   pub narrow : ascii ≡ asciiIn (l .ascii) targets x

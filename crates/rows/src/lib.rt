@@ -427,7 +427,7 @@ fn find_places(
     places: &mut [u32],
 ) -> Places
     requires { ⌜ 2048 ≤ length (now places) ⌝ }
-    ensures { λ r. ⌜ Judged r (now (segments .entry)) (now (segments .exit)) (now (masks .entry)) (now (masks .exit)) (now (distinct .entry)) (now (distinct .exit)) (now (places .entry)) (now (places .exit)) (judged targets continuations short (parseDistinct (length (now (segments .entry))) (length (now (masks .entry))) (length (now (distinct .entry))) (now (list .entry)))) ⌝ }
+    ensures { λ r. ⌜ Judged r (length (now (segments .entry))) (now (segments .exit)) (now (masks .entry)) (now (masks .exit)) (now (distinct .entry)) (now (distinct .exit)) (now (places .entry)) (now (places .exit)) (judged targets continuations short (parseDistinct (length (now (segments .entry))) (length (now (masks .entry))) (length (now (distinct .entry))) (now (list .entry)))) ⌝ }
 {
     let found = distinct_masks::place_masks(list, segments, masks, distinct, places);
     match allow(found, targets, continuations, short) {
@@ -448,9 +448,9 @@ fn find_places(
 }
 
 // The rows of a list of transitions, each distinct mask of which was given a target and a continuation: 128 ascii targets, the wide row and the escape row,
-// three numbers to a range. Refused: every number of the six buffers is 0. Accepted: behind the rows there are zeros. The other three buffers are lent to work
-// in: the segments, their masks and the distinct ones stand at their fronts, and what lies behind is not touched, since it would take longer to clear it than
-// to build short rows.
+// three numbers to a range. Refused: every number of the six buffers is 0. Accepted: behind the rows, and behind the segments, which are left too, there are
+// zeros. The two buffers for masks are lent to work in: the masks of the segments and the distinct ones stand at their fronts, and what lies behind is not
+// touched, since it would take longer to clear it than to build short rows.
 pub fn build_rows(
     list: &[u8],
     targets: &[u16],

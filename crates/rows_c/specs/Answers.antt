@@ -6,8 +6,9 @@ use mathlib.Core.List.{List}
 use lib.ListN.{getD}
 use Rattle.refusal.specs.Said.{Said, ok, no}
 use Rattle.transitions.specs.Read.{Parsed}
+use Rattle.segments.specs.Answer.{segmentsIn}
 use Rattle.masks.specs.Masks.{matrix, distinctOf}
-use Rattle.rows.specs.Answer.{Lent, counted, asciiIn, wideIn, escapeIn, segmentsLeft, masksLeft}
+use Rattle.rows.specs.Answer.{Lent, counted, asciiIn, wideIn, escapeIn, masksLeft}
 use Rattle.rows_c.specs.declared.CRows.{CRows}
 
 -- how many numbers the wide row and the escape row have
@@ -18,7 +19,7 @@ rowsInC (no n p) = record { number = n; place = p; wide = 0; escape = 0 }
 -- the answer says it, and the six buffers hold it
 pub record BuildsInC (r : CRows) (l : Lent) (segments masks distinct ascii wide escape : List ℕ) (targets conts : List ℕ) (x : Parsed) : Type 0 where
   pub says : r ≡ rowsInC (counted targets conts x)
-  pub low-high : segments ≡ segmentsLeft (l .segments) x
+  pub low-high : segments ≡ segmentsIn (l .segments) x
   pub each : masks ≡ masksLeft matrix (l .masks) x
   pub once : distinct ≡ masksLeft distinctOf (l .distinct) x
   pub narrow : ascii ≡ asciiIn (l .ascii) targets x

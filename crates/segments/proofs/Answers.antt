@@ -1,5 +1,5 @@
--- The laws of the calls: from the ends of all intervals to cuts, and from cuts to segments. w is the list's bytes. Assumes nothing.
-use mathlib.Core.Path.{_≡_, refl, sym, ap, subst, _∙_}
+-- The laws of the call: from the ends of all intervals to cuts, and from cuts to segments. w is the list's bytes. Assumes nothing.
+use mathlib.Core.Path.{_≡_, refl, sym, ap, ap₂, _∙_}
 use mathlib.Core.List.{List, [], _∷_, _++_}
 use mathlib.Core.Bool.{true}
 use Prim.Native.Nat.{ℕ, _+_, _*_, _-_, _/_, _<_, _≤_}
@@ -12,7 +12,7 @@ use lib.ListN.{length, getD, take, length-replicate, length-append, length-take}
 use lib.Seq.{take-at}
 use Rattle.refusal.specs.declared.Refusal.{Refusal}
 use Rattle.refusal.specs.Said.{Said, ok, no, ROOM}
-use Rattle.written.specs.Over.{over, Put, zeros, padded}
+use Rattle.written.specs.Over.{lay, Put, zeros, padded}
 use Rattle.written.proofs.Overs.{lay-zeros}
 use Rattle.transitions.specs.declared.Transitions.{Transitions}
 use Rattle.transitions.specs.declared.Transitions.the-variants as told
@@ -22,15 +22,14 @@ use Rattle.transitions.specs.Read.{Parsed, parsed, refused, parse, isParsed, ac
 use Rattle.transitions.specs.Read as list
 use Rattle.interval_ends.specs.Ends.{parseInto, endsIn}
 use Rattle.interval_ends.specs.Ends as into
-use Rattle.transitions.proofs.Order.{le-cases}
 use Rattle.transitions.proofs.Accepted.{length-ends, most-ends}
 use Rattle.segments.specs.declared.Segments.{Segments}
 use Rattle.segments.specs.declared.Segments.the-variants.{Count, Refused}
 use Rattle.segments.specs.Segments.{cutAll, cutsOf, starts, startsFrom, segments, segmentsFrom}
 use Rattle.segments.specs.Sort.{insertAll, Sorted}
-use Rattle.segments.specs.Answer.{said, parseFor, counted, segmentsIn, segmentsOver, Lays, Writes, cutsCounted, Cuts}
+use Rattle.segments.specs.Answer.{said, parseFor, counted, segmentsIn, Writes, cutsCounted, Cuts}
 use Rattle.segments.proofs.Inserts.{length-insertAll}
-use Rattle.segments.proofs.Puts.{lay-over, cut-all}
+use Rattle.segments.proofs.Puts.{cut-all}
 
 length-endsAll : (ts : List Transition) → length (endsAll ts) ≡ 2 * total ts
 unfolding endsAll total
@@ -161,32 +160,31 @@ unfolding cutsCounted accepted isParsed
 many (parsed ts) e = record { good = refl; size = cc }
 many (refused a b) e = let z : _≡_ {A = ℕ} 0 1 = cc in absurd (omega arith)
 
-is-laid : (k : ℕ) (x : Parsed) (old out : List ℕ) → isParsed x ≡ true → k ≡ length (starts (cutsOf (accepted x))) → out ≡ over (segments (cutsOf (accepted x))) old → Lays (Count k) old out x
-unfolding isParsed accepted counted segmentsOver
-is-laid k (parsed ts) old out h s o = record { says = ap (λ (k : ℕ). ok (k ∷ [])) s; leaves = o }
-is-laid k (refused a b) old out h s o = let z : _≡_ {A = ℕ} 0 1 = cc in absurd (omega arith)
+is-written : (n k : ℕ) (x : Parsed) (out : List ℕ) → isParsed x ≡ true → k ≡ length (starts (cutsOf (accepted x))) → out ≡ padded n (segments (cutsOf (accepted x))) → Writes (Count k) n out x
+unfolding isParsed accepted counted segmentsIn
+is-written n k (parsed ts) out h s o = record { says = ap (λ (k : ℕ). ok (k ∷ [])) s; leaves = o }
+is-written n k (refused a b) out h s o = let z : _≡_ {A = ℕ} 0 1 = cc in absurd (omega arith)
 
-is-refused : (x : Parsed) (r : Refusal) (old : List ℕ) → said (Refused r) ≡ cutsCounted x → Lays (Refused r) old old x
-unfolding cutsCounted counted segmentsOver
-is-refused (parsed ts) r old e = let z : _≡_ {A = ℕ} 0 1 = cc in absurd (omega arith)
-is-refused (refused a b) r old e = record { says = e; leaves = refl }
+is-refused : (n : ℕ) (x : Parsed) (r : Refusal) (out : List ℕ) → said (Refused r) ≡ cutsCounted x → out ≡ zeros n → Writes (Refused r) n out x
+unfolding cutsCounted counted segmentsIn
+is-refused n (parsed ts) r out e o = let z : _≡_ {A = ℕ} 0 1 = cc in absurd (omega arith)
+is-refused n (refused a b) r out e o = record { says = e; leaves = o }
 
--- The call that writes over the front of a buffer
+-- The call: the buffer was cleared first
 
-pub segments-roomy : (n : ℕ) (w : List ℕ) → 4096 ≤ n → parseFor n w ≡ parse w
-unfolding parseFor
-segments-roomy n w h = rw (le-ltb n 4096 h)
+module _ (w old : List ℕ) {d : List ℕ} (z : d ≡ zeros (length old)) where
+  size : length d ≡ length old
+  size = ap length z ∙ length-replicate (length old) 0
 
-segments-short : (n : ℕ) (w : List ℕ) → n < 4096 → parseFor n w ≡ refused ROOM 0
-unfolding parseFor
-segments-short n w h = rw (lt-ltb n 4096 h)
-
-module _ (w d : List ℕ) where
-  pub no-room : length d < 4096 → Lays (Refused (record { number = ROOM; place = 0 })) d d (parseFor (length d) w)
-  unfolding counted segmentsOver
-  no-room l = rw (segments-short (length d) w l) (record { says = refl; leaves = refl })
+  pub no-room : length d < 4096 → Writes (Refused (record { number = ROOM; place = 0 })) (length old) d (parseFor (length old) w)
+  unfolding parseFor counted segmentsIn
+  no-room l = let h : length old < 4096 = omega (arith, size) in rw (lt-ltb (length old) 4096 h) (record { says = refl; leaves = z })
 
   module _ (l : 4096 ≤ length d) {got : Segments} {cs : List ℕ} (c : Cuts got cs (parse w)) where
+    for-room : parseFor (length old) w ≡ parse w
+    unfolding parseFor
+    for-room = let h : 4096 ≤ length old = omega (arith, size) in rw (le-ltb (length old) 4096 h)
+
     module _ {m : ℕ} (e : got ≡ Count m) where
       found : Many (parse w) m
       found = many (parse w) (ap said (sym e) ∙ c .says)
@@ -200,47 +198,19 @@ module _ (w d : List ℕ) where
       pub seg-room : 2 * m ≤ length d
       seg-room = omega (arith, seg-few, c .size)
 
-      pub seg-found : {k : ℕ} {out : List ℕ} → Put (segments (take m cs)) 0 d k out → Lays (Count (k / 2)) d out (parseFor (length d) w)
+      pub seg-found : {k : ℕ} {out : List ℕ} → Put (segments (take m cs)) 0 d k out → Writes (Count (k / 2)) (length old) out (parseFor (length old) w)
       seg-found {k} {out} p =
           let all : segments (take m cs) ≡ segments (cutsOf (accepted (parse w))) = ap segments first in
           let half : k / 2 ≡ length (starts (cutsOf (accepted (parse w)))) = omega (arith, p .next, ap length all, length-starts (cutsOf (accepted (parse w)))) in
-          rw (segments-roomy (length d) w l)
-          (is-laid (k / 2) (parse w) d out (found .good) half (p .is ∙ lay-over (segments (take m cs)) d ∙ ap (λ (xs : List ℕ). over xs d) all))
+          let fits : length (segments (take m cs)) ≤ length old = omega (arith, ap length all, length-starts (cutsOf (accepted (parse w))), few-segments w, size) in
+          rw for-room
+          (is-written (length old) (k / 2) (parse w) out (found .good) half
+          (p .is ∙ ap (lay 0 (segments (take m cs))) z ∙ lay-zeros (length old) (segments (take m cs)) fits ∙ ap (padded (length old)) all))
 
-    pub seg-refused : {r : Refusal} → got ≡ Refused r → Lays (Refused r) d d (parseFor (length d) w)
-    seg-refused {r} e = rw (segments-roomy (length d) w l) (is-refused (parse w) r d (ap said (sym e) ∙ c .says))
+    pub seg-refused : {r : Refusal} → got ≡ Refused r → Writes (Refused r) (length old) d (parseFor (length old) w)
+    seg-refused {r} e = rw for-room (is-refused (length old) (parse w) r d (ap said (sym e) ∙ c .says) z)
 
-pub ruleset laying = (needs, length-replicate, no-room, seg-few, seg-room, seg-found, seg-refused)
-
--- Laid over zeros they have zeros behind them
-
-pub segments-asked : (n : ℕ) (w : List ℕ) (ts : List Transition) → parseFor n w ≡ parsed ts → (parse w ≡ parsed ts) × (4096 ≤ n)
-segments-asked n w ts e =
-    le-cases 4096 n
-    (λ h. (sym (segments-roomy n w h) ∙ e, h))
-    (λ h. let f = sym (segments-short n w h) ∙ e in let z : _≡_ {A = ℕ} 0 1 = cc in absurd (omega arith))
-
-pub segments-fit : (n : ℕ) (w : List ℕ) (ts : List Transition) → parseFor n w ≡ parsed ts → length (segments (cutsOf ts)) ≤ n
-unfolding accepted
-segments-fit n w ts e =
-    let a = segments-asked n w ts e in
-    let is : accepted (parse w) ≡ ts = ap accepted (a .0) in
-    omega (arith, length-starts (cutsOf ts), rw is at (few-segments w), a .1)
-
-pub segments-zeros : (n : ℕ) (x : Parsed) → ((ts : List Transition) → x ≡ parsed ts → length (segments (cutsOf ts)) ≤ n) → segmentsOver (zeros n) x ≡ segmentsIn n x
-unfolding segmentsOver segmentsIn
-segments-zeros n (parsed ts) h = sym (lay-over (segments (cutsOf ts)) (zeros n)) ∙ lay-zeros n (segments (cutsOf ts)) (h ts refl)
-segments-zeros n (refused k p) h = refl
-
-pub segments-cleared : (w old : List ℕ) {d : List ℕ} → d ≡ zeros (length old) → {r : Segments} {out : List ℕ} → Lays r d out (parseFor (length d) w) →
-    Writes r (length old) out (parseFor (length old) w)
-segments-cleared w old {d} z {r} {out} m =
-    let size : length d ≡ length old = ap length z ∙ length-replicate (length old) 0 in
-    let x : Parsed = parseFor (length old) w in
-    let g : Lays r d out x = subst (λ (n : ℕ). Lays r d out (parseFor n w)) size m in
-    record { says = g .says; leaves = g .leaves ∙ ap (λ (o : List ℕ). segmentsOver o x) z ∙ segments-zeros (length old) x (segments-fit (length old) w) }
-
-pub ruleset clearing = (needs, segments-cleared)
+pub ruleset answering = (needs, length-replicate, no-room, seg-few, seg-room, seg-found, seg-refused)
 
 -- `said` takes no two answers to one: what it says gives the answer back
 

@@ -1,4 +1,4 @@
--- What the calls for segments answer, and leave in a lent buffer of n numbers. w is the list's bytes. Assumes nothing.
+-- What the call for segments answers, and leaves in a lent buffer of n numbers. w is the list's bytes. Assumes nothing.
 use Prim.Native.Nat.{ℕ}
 use mathlib.Core.Path.{_≡_}
 use mathlib.Core.List.{List, [], _∷_}
@@ -6,7 +6,7 @@ use lib.ListN.{length, take}
 use lib.Dec.{ltb}
 use Rattle.refusal.specs.Said.{Said, ok, no, ROOM}
 use Rattle.refusal.specs.Lists.{pick}
-use Rattle.written.specs.Over.{over, zeros, padded}
+use Rattle.written.specs.Over.{zeros, padded}
 use Rattle.transitions.specs.Read.{Parsed, parsed, refused, parse, accepted}
 use Rattle.segments.specs.declared.Segments.{Segments}
 use Rattle.segments.specs.declared.Segments.the-variants.{Count, Refused}
@@ -31,17 +31,7 @@ unfoldable pub segmentsIn : ℕ → Parsed → List ℕ
 segmentsIn n (parsed ts) = padded n (segments (cutsOf ts))
 segmentsIn n (refused k p) = zeros n
 
--- the same segments over the front of a buffer that held `old`: behind them it is as it was, and all of it where the list is refused
-unfoldable pub segmentsOver : List ℕ → Parsed → List ℕ
-segmentsOver old (parsed ts) = over (segments (cutsOf ts)) old
-segmentsOver old (refused k p) = old
-
--- the answer says it, and the buffer holds it, over what it held ..
-pub record Lays (r : Segments) (old out : List ℕ) (x : Parsed) : Type 0 where
-  pub says : said r ≡ counted x
-  pub leaves : out ≡ segmentsOver old x
-
--- .. or with zeros behind it
+-- the answer says it, and the buffer holds it
 pub record Writes (r : Segments) (n : ℕ) (out : List ℕ) (x : Parsed) : Type 0 where
   pub says : said r ≡ counted x
   pub leaves : out ≡ segmentsIn n x

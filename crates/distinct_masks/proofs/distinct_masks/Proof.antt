@@ -9,7 +9,6 @@ distinct-masks-spec =
     (tie.spec
     (λ c κs. search distincts)
     (λ c κs. search distincts)
-    (λ c κs. search distincts)
     (λ c. search distincts)
     (λ c κs. search distincts)
     (λ c. search distincts)

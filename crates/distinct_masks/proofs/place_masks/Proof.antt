@@ -1,4 +1,4 @@
--- The buffers are filled where they are long enough and the list is accepted.
+-- The buffers are cleared, and filled where they are long enough and the list is accepted.
 use Rattle.distinct_masks.proofs.Answers.{placing}
 use Rattle.distinct_masks.proofs.place_masks.Statement.{statement}
 use Rattle.distinct_masks.proofs.place_masks.Tie as tie
@@ -8,6 +8,8 @@ place-masks-spec =
     tie.close
     (tie.spec
     (λ c κs. search placing)
+    (λ c κs. search placing)
+    (λ c. search placing)
     (λ c. search placing)
     (λ c κs. search placing)
     (λ c. search placing)

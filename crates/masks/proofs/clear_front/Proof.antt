@@ -1,4 +1,4 @@
--- The words before k are 0, the others as they were. The measure is how many words there are behind them.
+-- The words before k are 0, the others as they were. The measure is how many are left.
 use Prim.Native.Nat.{_-_, _≤_}
 use mathlib.Core.Path.{_≡_}
 use mathlib.Core.List.{_++_}
@@ -11,7 +11,7 @@ abbrev Inv-loop : tie.InvT-loop
 Inv-loop out₀ count k₀ out k = (out ≡ replicate k 0 ++ drop k out₀) × (length out ≡ length out₀) × (k ≤ count)
 
 abbrev μ-loop : tie.MeasureT-loop
-μ-loop out₀ count k₀ out k = length out₀ - k
+μ-loop out₀ count k₀ out k = count - k
 
 pub clear-front-spec : {M : Type 1} → statement M
 clear-front-spec =

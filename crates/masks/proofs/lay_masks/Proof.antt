@@ -7,6 +7,8 @@ pub lay-masks-spec : {M : Type 1} → statement M
 lay-masks-spec =
     tie.close
     (tie.spec
+    (λ c κs. search answering)
+    (λ c. search answering)
     (λ c. search answering)
     (λ c κs. search answering)
     (λ c. search answering)

@@ -85,8 +85,7 @@ fn build(list: &[Transition], name: &str, calls: usize) {
 }
 
 /// What the calls have to write whatever the list: the zeros, by the C library's `memset`. Of the six
-/// buffers of a row call those for segments and masks are cleared where the list is refused, and only
-/// there.
+/// buffers of a row call the two for masks are cleared where the list is refused, and only there.
 fn zeros() {
     let mut segments = vec![1_u32; SEGMENT_NUMBERS];
     let mut masks = vec![1_u64; MASK_WORDS];
@@ -97,7 +96,10 @@ fn zeros() {
         black_box(&mut segments).fill(0);
         black_box(&mut masks).fill(0);
     });
-    alone("zeros of the rows' buffers alone", calls, |_| black_box(&mut rows).fill(0));
+    alone("zeros of the segments' and the rows' buffers alone", calls, |_| {
+        black_box(&mut segments).fill(0);
+        black_box(&mut rows).fill(0);
+    });
     let mut distinct = vec![1_u64; MASK_WORDS];
     alone("zeros of the six buffers of a row call alone", calls, |_| {
         black_box(&mut segments).fill(0);
@@ -105,7 +107,8 @@ fn zeros() {
         black_box(&mut distinct).fill(0);
         black_box(&mut rows).fill(0);
     });
-    // A list that is refused at its first byte costs a row call just these, and the call.
+    // A list that is refused at its first byte costs a row call just these, the segments' twice, and the
+    // call.
     let mut ascii = [0; 128];
     let (wide, escape) = rows.split_at_mut(ROW_NUMBERS);
     alone("build_rows of a list that is refused", calls, |_| {
