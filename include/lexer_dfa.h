@@ -279,8 +279,7 @@ Span lexer_dfa_continuation_configs(const uint32_t *room, size_t len, uint32_t c
  * own; ORDER; LIMIT. All are at the record's offset in the list.
  *
  * A call that writes first asks for the room that the longest list can need: ROOM, before a byte is
- * read, where a buffer is shorter. Behind what is written a buffer is 0, but for the two buffers for
- * masks of lexer_dfa_build_rows.
+ * read, where a buffer is shorter. Behind what is written a buffer is 0.
  */
 #define LEXER_DFA_MAX_TRANSITIONS 256
 #define LEXER_DFA_MAX_INTERVALS 1024
@@ -350,9 +349,6 @@ typedef struct {
  * is given a target, and a continuation or LEXER_DFA_NONE. What is given LEXER_DFA_DEAD_STATE is left
  * out of the rows, as is what no transition holds. `ascii` gets the targets of 0 to 127; `wide` low,
  * high and target of ranges from 128 on; `escape` low, high and continuation, ASCII among them.
- *
- * `masks` and `distinct` are lent to work in: the masks of an accepted list stand at their fronts, and
- * behind them the words stay as they were. Refused, all six buffers are 0.
  *
  * Judged in this order: ROOM for segments, masks and distinct masks, as above; the records; TARGETS;
  * ROOM for the rows, where `ascii` is shorter than LEXER_DFA_ASCII_TARGETS, or `wide` or `escape` than

@@ -7,53 +7,60 @@ use native.Mathlib.Omega.{arith}
 use borrow.Author.Needs.{needs}
 use borrow.Author.Tests.{lt-ltb, le-ltb, ltb-false}
 use lib.Dec.{ltb}
-use lib.ListN.{length, drop, length-replicate, length-append}
+use lib.ListN.{length, length-replicate, length-append}
 use Rattle.refusal.specs.declared.Refusal.{Refusal}
-use Rattle.refusal.specs.Said.{Said, ok, ROOM}
+use Rattle.refusal.specs.Said.{Said, ok, no, ROOM}
 use Rattle.refusal.specs.Lists.{pick}
-use Rattle.written.specs.Over.{over, lay, zeros}
-use Rattle.written.proofs.Overs.{over-length}
+use Rattle.written.specs.Over.{lay, zeros, padded}
+use Rattle.written.proofs.Overs.{lay-zeros}
 use Rattle.transitions.specs.Transition.{Transition}
-use Rattle.transitions.specs.Read.{Parsed, parsed, refused, parse}
+use Rattle.transitions.specs.Read.{Parsed, parsed, refused, parse, isParsed, accepted}
 use Rattle.transitions.proofs.Order.{le-cases}
 use Rattle.segments.specs.Segments.{cutsOf, starts}
 use Rattle.segments.specs.Answer.{segmentsIn}
+use Rattle.segments.proofs.Answers.{few-segments}
 use Rattle.masks.specs.declared.Masks.{Masks}
 use Rattle.masks.specs.declared.Masks.the-variants.{Count, Refused}
 use Rattle.masks.specs.declared.Places.{Places}
 use Rattle.masks.specs.declared.Places.the-variants as place
 use Rattle.masks.specs.Masks.{wordsFor, masksAt, matrix, flat, distinct, distinctOf, placesIn, placesOf}
-use Rattle.distinct_masks.specs.Walk.{chunks, Gathered, Spaced}
-use Rattle.masks.specs.Answer.{said, told, parseMasks, parseDistinct, parsePlaces, counted, foundIn, masksOver, placesOver, Laid, Distinct, Placed}
-use Rattle.masks.proofs.Columns.{lay-over, over-append}
-use Rattle.masks.proofs.Answers.{few-of, length-mask, length-masks, masks-asked, matrix-fits, over-zeros}
-use Rattle.distinct_masks.proofs.Distincts.{Wide, length-flat, chunks-flat, wide-distinct, few-distinct}
+use Rattle.distinct_masks.specs.Walk.{chunks, Gathered, Spaced, Zeroed, Cleared}
+use Rattle.masks.specs.Answer.{said, told, parseMasks, parseDistinct, parsePlaces, counted, foundIn, masksIn, placedIn, Matrix, Distinct, Placed}
+use Rattle.masks.proofs.Answers.{few-from, length-mask, length-masks, roomy, short}
+use Rattle.distinct_masks.proofs.Distincts.{Wide, length-flat, chunks-flat, wide-distinct, few-distinct, length-places}
 
 -- The call for the distinct ones: what the answer for masks says of the list
 
-record Each (s n : ℕ) (w : List ℕ) (c k : ℕ) (old ms : List ℕ) : Type 0 where
+record Each (s n : ℕ) (w : List ℕ) (c k : ℕ) (ms : List ℕ) : Type 0 where
   ts : List Transition
   is : parseMasks s n w ≡ parsed ts
   good : parse w ≡ parsed ts
   masks : c ≡ length (matrix ts)
   words : k ≡ wordsFor (length ts)
-  leaves : ms ≡ over (flat (matrix ts)) old
+  leaves : ms ≡ padded n (flat (matrix ts))
 
-distinct-asked : (s n d : ℕ) (w : List ℕ) (ts : List Transition) → parseDistinct s n d w ≡ parsed ts → (parseMasks s n w ≡ parsed ts) × (8192 ≤ d)
-unfolding parseDistinct
-distinct-asked s n d w ts e =
-    le-cases 8192 d
-    (λ h. (rw (le-ltb d 8192 h) at e, h))
-    (λ h. let f = rw (lt-ltb d 8192 h) at e in let z : _≡_ {A = ℕ} 0 1 = cc in absurd (omega arith))
+all-room : (s n : ℕ) (w : List ℕ) (ts : List Transition) → parseMasks s n w ≡ parsed ts → parse w ≡ parsed ts
+unfolding parseMasks
+all-room s n w ts e =
+    le-cases 8192 n
+    (λ h.
+    le-cases 4096 s
+    (λ g. sym (roomy s w g) ∙ (rw (le-ltb n 8192 h) at e))
+    (λ g. let f = sym (short s w g) ∙ (rw (le-ltb n 8192 h) at e) in let z : _≡_ {A = ℕ} 0 1 = cc in absurd (omega arith)))
+    (λ h. let f = rw (lt-ltb n 8192 h) at e in let z : _≡_ {A = ℕ} 0 1 = cc in absurd (omega arith))
 
 pub accepted-list : (s n d : ℕ) (w : List ℕ) (ts : List Transition) → parseDistinct s n d w ≡ parsed ts → parse w ≡ parsed ts
-accepted-list s n d w ts e = masks-asked s n w ts (distinct-asked s n d w ts e .0) .0
+unfolding parseDistinct
+accepted-list s n d w ts e =
+    le-cases 8192 d
+    (λ h. all-room s n w ts (rw (le-ltb d 8192 h) at e))
+    (λ h. let f = rw (lt-ltb d 8192 h) at e in let z : _≡_ {A = ℕ} 0 1 = cc in absurd (omega arith))
 
-each : (s n : ℕ) (w : List ℕ) (c k : ℕ) (old ms : List ℕ) (x : Parsed) → parseMasks s n w ≡ x → said (Count c k) ≡ counted matrix x →
-    ms ≡ masksOver matrix old x → Each s n w c k old ms
-unfolding counted masksOver
-each s n w c k old ms (parsed ts) e f l = record { ts = ts; is = e; good = masks-asked s n w ts e .0; masks = cc; words = cc; leaves = l }
-each s n w c k old ms (refused a b) e f l = let z : _≡_ {A = ℕ} 0 1 = cc in absurd (omega arith)
+each : (s n : ℕ) (w : List ℕ) (c k : ℕ) (ms : List ℕ) (x : Parsed) → parseMasks s n w ≡ x → said (Count c k) ≡ counted matrix x →
+    ms ≡ masksIn matrix n x → Each s n w c k ms
+unfolding counted masksIn
+each s n w c k ms (parsed ts) e f l = record { ts = ts; is = e; good = all-room s n w ts e; masks = cc; words = cc; leaves = l }
+each s n w c k ms (refused a b) e f l = let z : _≡_ {A = ℕ} 0 1 = cc in absurd (omega arith)
 
 wide-masks : (ts : List Transition) (ps : List ℕ) → Wide (wordsFor (length ts)) (masksAt ts ps)
 unfolding masksAt
@@ -65,31 +72,25 @@ unfolding flat
 few-wide k [] h a = omega arith
 few-wide k (m ∷ ms) h a = omega (arith, length-append m (flat ms), a .0, few-wide k ms h (a .1))
 
-pub distinct-fits : (s n d : ℕ) (w : List ℕ) (ts : List Transition) → parseDistinct s n d w ≡ parsed ts → length (flat (distinctOf ts)) ≤ d
-distinct-fits s n d w ts e =
-    let f = few-of w ts (accepted-list s n d w ts e) in
-    let four : wordsFor (length ts) ≤ 4 = omega (arith, f .0) in
-    omega (
-      arith,
-      few-wide (wordsFor (length ts)) (distinctOf ts) four (wide-distinct (wordsFor (length ts)) [] (matrix ts) tt (wide-masks ts (starts (cutsOf ts)))),
-      few-distinct [] (matrix ts),
-      length-masks ts (starts (cutsOf ts)),
-      f .1,
-      distinct-asked s n d w ts e .1,
-    )
+-- no list has more than 256 transitions and 2,047 segments
+few-of : (w : List ℕ) (ts : List Transition) → parse w ≡ parsed ts → (length ts ≤ 256) × (length (starts (cutsOf ts)) ≤ 2047)
+unfolding accepted isParsed
+few-of w ts e =
+    let is : accepted (parse w) ≡ ts = ap accepted e in
+    (rw is at (few-from w 256 0 0 (ap isParsed e)), rw is at (few-segments w))
 
-no-masks : (s : ℕ) (x : Parsed) (r : Refusal) (ns old ms d q : List ℕ) → said (Refused r) ≡ counted matrix x → ns ≡ segmentsIn s x → ms ≡ masksOver matrix old x →
-    Placed (place.Refused r) s ns old ms d d q q x
-unfolding counted masksOver foundIn placesOver
-no-masks s (parsed ts) r ns old ms d q e a b = let z : _≡_ {A = ℕ} 0 1 = cc in absurd (omega arith)
-no-masks s (refused k p) r ns old ms d q e a b = record { says = e; low-high = a; each = b; once = refl; leaves = refl }
+no-masks : (s n d q : ℕ) (x : Parsed) (r : Refusal) (ns ms out ps : List ℕ) → said (Refused r) ≡ counted matrix x → ns ≡ segmentsIn s x →
+    ms ≡ masksIn matrix n x → out ≡ zeros d → ps ≡ zeros q → Placed (place.Refused r) s ns n ms d out q ps x
+unfolding counted masksIn foundIn placedIn
+no-masks s n d q (parsed ts) r ns ms out ps e a b o p = let z : _≡_ {A = ℕ} 0 1 = cc in absurd (omega arith)
+no-masks s n d q (refused k p) r ns ms out ps e a b o z = record { says = e; low-high = a; each = b; once = o; leaves = z }
 
--- The masks of the list stand: their distinct ones and places, over the fronts of two buffers
+-- The masks of the list stand: their distinct ones and places, into buffers that hold zeros
 
-module _ (w a b d q : List ℕ) (z : (8192 ≤ length d) × (2048 ≤ length q)) {got : Masks} {ns ms : List ℕ} (g : Laid got (length a) ns b ms (parseMasks (length a) (length b) w)) where
+module _ (w a b d q : List ℕ) (z : Cleared d q) {got : Masks} {ns ms : List ℕ} (g : Matrix got (length a) ns (length b) ms (parseMasks (length a) (length b) w)) where
   module _ {c k : ℕ} (i : got ≡ Count c k) where
-    of : Each (length a) (length b) w c k b ms
-    of = each (length a) (length b) w c k b ms (parseMasks (length a) (length b) w) refl (ap said (sym i) ∙ g .says) (g .leaves)
+    of : Each (length a) (length b) w c k ms
+    of = each (length a) (length b) w c k ms (parseMasks (length a) (length b) w) refl (ap said (sym i) ∙ g .says) (g .leaves)
 
     abbrev us : List Transition
     us = of .ts
@@ -97,47 +98,52 @@ module _ (w a b d q : List ℕ) (z : (8192 ≤ length d) × (2048 ≤ length q))
     rows : Wide k (matrix us)
     rows = subst (λ (j : ℕ). Wide j (matrix us)) (sym (of .words)) (wide-masks us (starts (cutsOf us)))
 
+    four : k ≤ 4
+    four = omega (arith, of .words, few-of w us (of .good) .0)
+
     many : c ≤ 2047
     many = omega (arith, of .masks, length-masks us (starts (cutsOf us)), few-of w us (of .good) .1)
 
     all-words : length (flat (matrix us)) ≡ c * k
     all-words = length-flat k (matrix us) rows ∙ ap (λ (j : ℕ). j * k) (sym (of .masks))
 
-    fits : length (flat (matrix us)) ≤ length b
-    fits = matrix-fits (length a) (length b) w us (of .is)
-
     pub distinct-spaced : Spaced ms c k d q
+    unfolding padded
     distinct-spaced =
-        let four : k ≤ 4 = omega (arith, of .words, few-of w us (of .good) .0) in
         record {
-          some = omega (arith, all-words, ap length (of .leaves), over-length (flat (matrix us)) b, fits);
-          room = omega (arith, all-words, few-wide k (matrix us) four rows, of .masks, many, z .0);
-          each = omega (arith, many, z .1);
+          some = omega (arith, all-words, ap length (of .leaves), length-append (flat (matrix us)) (zeros (length b - length (flat (matrix us)))));
+          room = omega (arith, all-words, few-wide k (matrix us) four rows, of .masks, many, z .room);
+          each = omega (arith, many, z .each);
           few = many;
         }
 
     front : chunks c k ms ≡ matrix us
-    front =
-        ap₂ (λ (j : ℕ) (t : List ℕ). chunks j k t) (of .masks) (of .leaves ∙ over-append (flat (matrix us)) b fits)
-        ∙ chunks-flat k (matrix us) (drop (length (flat (matrix us))) b) rows
+    unfolding padded
+    front = ap₂ (λ (j : ℕ) (t : List ℕ). chunks j k t) (of .masks) (of .leaves) ∙ chunks-flat k (matrix us) (zeros (length b - length (flat (matrix us)))) rows
 
     pub distinct-found : {r : ℕ} {out ps : List ℕ} → Gathered (chunks c k ms) d r out q ps →
-        Placed (place.Found c r k) (length a) ns b ms d out q ps (parseMasks (length a) (length b) w)
-    unfolding foundIn masksOver placesOver
+        Placed (place.Found c r k) (length a) ns (length b) ms (length d) out (length q) ps (parseMasks (length a) (length b) w)
+    unfolding foundIn masksIn placedIn
     distinct-found {r} {out} {ps} s =
-        let is : distinct [] (chunks c k ms) ≡ distinctOf us = ap (distinct []) front in
-        let left : out ≡ over (flat (distinctOf us)) d =
-        s .masks .is ∙ ap (λ (l : List (List ℕ)). lay 0 (flat l) d) is ∙ lay-over (flat (distinctOf us)) d in
-        let stands : ps ≡ over (placesOf us) q =
-        s .places ∙ ap (λ (l : List (List ℕ)). lay 0 (placesIn (distinct [] l) l) q) front ∙ lay-over (placesOf us) q in
+        let ds : List (List ℕ) = distinctOf us in
+        let is : distinct [] (chunks c k ms) ≡ ds = ap (distinct []) front in
+        let fits : length (flat ds) ≤ length d =
+        omega (arith, few-wide k ds four (wide-distinct k [] (matrix us) tt rows), few-distinct [] (matrix us), of .masks, many, z .room) in
+        let left : out ≡ padded (length d) (flat ds) =
+        s .masks .is ∙ ap₂ (λ (l : List (List ℕ)) (o : List ℕ). lay 0 (flat l) o) is (z .once) ∙ lay-zeros (length d) (flat ds) fits in
+        let fit : length (placesOf us) ≤ length q = omega (arith, length-places ds (matrix us), of .masks, many, z .each) in
+        let stands : ps ≡ padded (length q) (placesOf us) =
+        s .places ∙ ap₂ (λ (l : List (List ℕ)) (o : List ℕ). lay 0 (placesIn (distinct [] l) l) o) front (z .leaves) ∙ lay-zeros (length q) (placesOf us) fit in
         let size : c ≡ length (starts (cutsOf us)) = of .masks ∙ length-masks us (starts (cutsOf us)) in
         let says : told (place.Found c r k) ≡ foundIn (parsed us) =
         ap₂ {C = Said} (λ x l. ok (x ∷ l)) size (ap₂ {C = List ℕ} (λ x y. x ∷ y ∷ []) (s .masks .count ∙ ap length is) (of .words)) in
         rw (of .is)
         (record { says = says; low-high = g .low-high ∙ ap (segmentsIn (length a)) (of .is); each = of .leaves; once = left; leaves = stands })
 
-  pub distinct-refused : {r : Refusal} → got ≡ Refused r → Placed (place.Refused r) (length a) ns b ms d d q q (parseMasks (length a) (length b) w)
-  distinct-refused {r} i = no-masks (length a) (parseMasks (length a) (length b) w) r ns b ms d q (ap said (sym i) ∙ g .says) (g .low-high) (g .leaves)
+  pub distinct-refused : {r : Refusal} → got ≡ Refused r →
+      Placed (place.Refused r) (length a) ns (length b) ms (length d) d (length q) q (parseMasks (length a) (length b) w)
+  distinct-refused {r} i =
+      no-masks (length a) (length b) (length d) (length q) (parseMasks (length a) (length b) w) r ns ms d q (ap said (sym i) ∙ g .says) (g .low-high) (g .leaves) (z .once) (z .leaves)
 
 pub ruleset filling = (needs, distinct-spaced, distinct-found, distinct-refused)
 
@@ -166,34 +172,50 @@ none-of-both : (x y : Bool) → (x || y) ≡ false → (x ≡ false) × (y ≡ f
 none-of-both true y e = absurd (false≢true (sym e))
 none-of-both false y e = (refl, e)
 
-module _ (d q : List ℕ) {t : Bool} (u : t ≡ (ltb (length d) 8192 || ltb (length q) 2048)) where
-  module _ (h : t ≡ false) where
-    pub long-masks : 8192 ≤ length d
-    long-masks = ltb-false (length d) 8192 (none-of-both (ltb (length d) 8192) (ltb (length q) 2048) (sym u ∙ h) .0)
+-- the buffers for distinct masks and places were cleared first
+module _ (e f : List ℕ) {d q : List ℕ} (z : Zeroed e d f q) where
+  long : length d ≡ length e
+  long = ap length (z .words) ∙ length-replicate (length e) 0
 
-    pub long-places : 2048 ≤ length q
-    long-places = ltb-false (length q) 2048 (none-of-both (ltb (length d) 8192) (ltb (length q) 2048) (sym u ∙ h) .1)
+  as-long : length q ≡ length f
+  as-long = ap length (z .numbers) ∙ length-replicate (length f) 0
 
-  module _ (w a b : List ℕ) where
-    pub none-room : {ns : List ℕ} → t ≡ true → ns ≡ zeros (length a) →
-        Placed (place.Refused (record { number = ROOM; place = 0 })) (length a) ns b b d d q q (parsePlaces (length a) (length b) (length d) (length q) w)
-    unfolding parsePlaces parseDistinct foundIn segmentsIn masksOver placesOver
-    none-room h s =
-        rw (room-true (ltb (length d) 8192) (ltb (length q) 2048) (parseMasks (length a) (length b) w) (sym u ∙ h))
-        (record { says = refl; low-high = s; each = refl; once = refl; leaves = refl })
+  module _ {t : Bool} (u : t ≡ (ltb (length d) 8192 || ltb (length q) 2048)) where
+    test : (ltb (length e) 8192 || ltb (length f) 2048) ≡ t
+    test = ap₂ (λ (x y : ℕ). ltb x 8192 || ltb y 2048) (sym long) (sym as-long) ∙ sym u
 
-    pub placed : {got : Places} {ns ms out ps : List ℕ} → t ≡ false → Placed got (length a) ns b ms d out q ps (parseMasks (length a) (length b) w) →
-        Placed got (length a) ns b ms d out q ps (parsePlaces (length a) (length b) (length d) (length q) w)
-    unfolding parsePlaces parseDistinct
-    placed h g = rw (room-false (ltb (length d) 8192) (ltb (length q) 2048) (parseMasks (length a) (length b) w) (sym u ∙ h)) g
+    pub all-cleared : t ≡ false → Cleared d q
+    all-cleared h =
+        let n = none-of-both (ltb (length d) 8192) (ltb (length q) 2048) (sym u ∙ h) in
+        record {
+          once = z .words ∙ ap zeros (sym long);
+          leaves = z .numbers ∙ ap zeros (sym as-long);
+          room = ltb-false (length d) 8192 (n .0);
+          each = ltb-false (length q) 2048 (n .1);
+        }
 
-pub ruleset placing = (needs, long-masks, long-places, none-room, placed)
+    module _ (w a b : List ℕ) where
+      pub none-room : {ns ms : List ℕ} → t ≡ true → Zeroed b ms a ns →
+          Placed (place.Refused (record { number = ROOM; place = 0 })) (length a) ns (length b) ms (length e) d (length f) q (parsePlaces (length a) (length b) (length e) (length f) w)
+      unfolding parsePlaces parseDistinct foundIn segmentsIn masksIn placedIn
+      none-room h s =
+          rw (room-true (ltb (length e) 8192) (ltb (length f) 2048) (parseMasks (length a) (length b) w) (test ∙ h))
+          (record { says = refl; low-high = s .numbers; each = s .words; once = z .words; leaves = z .numbers })
+
+      pub placed : {got : Places} {ns ms out ps : List ℕ} → t ≡ false →
+          Placed got (length a) ns (length b) ms (length d) out (length q) ps (parseMasks (length a) (length b) w) →
+          Placed got (length a) ns (length b) ms (length e) out (length f) ps (parsePlaces (length a) (length b) (length e) (length f) w)
+      unfolding parsePlaces parseDistinct
+      placed h g =
+          rw (room-false (ltb (length e) 8192) (ltb (length f) 2048) (parseMasks (length a) (length b) w) (test ∙ h), ← long, ← as-long) g
+
+pub ruleset placing = (needs, length-replicate, none-room, all-cleared, placed)
 
 -- The call without the places: its own buffer for them has room
 
-pub roomy-places : (s n d p : ℕ) (w : List ℕ) → 2048 ≤ p → parsePlaces s n d p w ≡ parseDistinct s n d w
+pub roomy-places : (s n d : ℕ) (w : List ℕ) → parsePlaces s n d 2048 w ≡ parseDistinct s n d w
 unfolding parsePlaces
-roomy-places s n d p w h = rw (le-ltb p 2048 h)
+roomy-places s n d w = refl
 
 found-said : (x : Parsed) {c m k : ℕ} → told (place.Found c m k) ≡ foundIn x → said (Count m k) ≡ counted distinctOf x
 unfolding foundIn counted
@@ -208,29 +230,18 @@ unfolding foundIn counted
 none-said (parsed ts) e = let z : _≡_ {A = ℕ} 0 1 = cc in absurd (omega arith)
 none-said (refused n p) e = e
 
--- .. and its buffers for masks were cleared first
-module _ (w a b e : List ℕ) {b₀ e₀ q ps : List ℕ} (y : b₀ ≡ zeros (length b)) (z : e₀ ≡ zeros (length e)) {got : Places} {ns ms out : List ℕ}
-    (h : Placed got (length a) ns b₀ ms e₀ out q ps (parsePlaces (length a) (length b₀) (length e₀) (length q) w)) (p : length q ≡ 2048) where
+module _ (w a b e : List ℕ) {ps : List ℕ} {got : Places} {ns ms out : List ℕ}
+    (h : Placed got (length a) ns (length b) ms (length e) out 2048 ps (parsePlaces (length a) (length b) (length e) 2048 w)) where
   abbrev x : Parsed
   x = parseDistinct (length a) (length b) (length e) w
 
-  same-list : parsePlaces (length a) (length b₀) (length e₀) (length q) w ≡ x
-  same-list =
-      let i : length b₀ ≡ length b = ap length y ∙ length-replicate (length b) 0 in
-      let j : length e₀ ≡ length e = ap length z ∙ length-replicate (length e) 0 in
-      rw (i, j) (roomy-places (length a) (length b) (length e) (length q) w (omega arith))
+  same-list : parsePlaces (length a) (length b) (length e) 2048 w ≡ x
+  same-list = roomy-places (length a) (length b) (length e) w
 
   without : {r : Masks} → said r ≡ counted distinctOf x → Distinct r (length a) ns (length b) ms (length e) out x
   without s =
       let g = rw same-list at h in
-      record {
-        says = s;
-        low-high = g .low-high;
-        each = g .each ∙ ap (λ (o : List ℕ). masksOver matrix o x) y
-            ∙ over-zeros matrix (length b) x (λ ts i. matrix-fits (length a) (length b) w ts (distinct-asked (length a) (length b) (length e) w ts i .0));
-        leaves = g .once ∙ ap (λ (o : List ℕ). masksOver distinctOf o x) z
-            ∙ over-zeros distinctOf (length e) x (distinct-fits (length a) (length b) (length e) w);
-      }
+      record { says = s; low-high = g .low-high; each = g .each; leaves = g .once }
 
   pub without-places : {c m k : ℕ} → got ≡ place.Found c m k → Distinct (Count m k) (length a) ns (length b) ms (length e) out (parseDistinct (length a) (length b) (length e) w)
   without-places i = without (found-said x (ap told (sym i) ∙ h .says ∙ ap foundIn same-list))

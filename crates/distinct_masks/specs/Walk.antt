@@ -4,7 +4,7 @@ use Prim.Native.Nat.{ℕ, zero, suc, _*_, _≤_}
 use mathlib.Core.Path.{_≡_}
 use mathlib.Core.List.{List, [], _∷_}
 use lib.ListN.{length, take, drop}
-use Rattle.written.specs.Over.{lay}
+use Rattle.written.specs.Over.{lay, zeros}
 use Rattle.masks.specs.Masks.{flat, addNew, distinct, placeOf, placesIn}
 
 -- k masks of so many words
@@ -33,3 +33,15 @@ pub record Spaced (ms : List ℕ) (count words : ℕ) (out places : List ℕ) : 
   pub room : count * words ≤ length out
   pub each : count ≤ length places
   pub few : count ≤ 2047
+
+-- two buffers, as long as before, hold zeros
+pub record Zeroed (old new olds news : List ℕ) : Type 0 where
+  pub words : new ≡ zeros (length old)
+  pub numbers : news ≡ zeros (length olds)
+
+-- the buffers for distinct masks and for places are long enough, and hold zeros
+pub record Cleared (out places : List ℕ) : Type 0 where
+  pub once : out ≡ zeros (length out)
+  pub leaves : places ≡ zeros (length places)
+  pub room : 8192 ≤ length out
+  pub each : 2048 ≤ length places

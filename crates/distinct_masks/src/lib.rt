@@ -8,7 +8,7 @@ ghost use lib.ListN.{length, take, drop};
 ghost use Rattle.refusal.specs.Lists.{pick, sameList};
 ghost use Rattle.written.specs.Over.{Put};
 ghost use Rattle.masks.specs.Masks.{isZero, index};
-ghost use Rattle.distinct_masks.specs.Walk.{chunks, Entered, Gathered, Spaced};
+ghost use Rattle.distinct_masks.specs.Walk.{chunks, Entered, Gathered, Spaced, Zeroed, Cleared};
 ghost use Rattle.masks.specs.Answer.{parseMasks, parseDistinct, parsePlaces, Distinct, Placed};
 use masks::Masks;
 use masks::Places;
@@ -167,6 +167,13 @@ fn put_distinct(
     d
 }
 
+fn clear_both(words: &mut [u64], numbers: &mut [u32])
+    ensures { λ _. ⌜ Zeroed (now (words .entry)) (now (words .exit)) (now (numbers .entry)) (now (numbers .exit)) ⌝ }
+{
+    written::clear_words(words);
+    written::clear(numbers);
+}
+
 fn too_short(out: usize, places: usize) -> bool
     ensures { λ r. ⌜ r ≡ (ltb out 8192 || ltb places 2048) ⌝ }
 {
@@ -176,7 +183,7 @@ fn too_short(out: usize, places: usize) -> bool
     places < PLACES
 }
 
-// The masks of a list and their places, where the buffers for distinct masks and places are long enough.
+// The masks of a list and their places, where the buffers for distinct masks and places are long enough and hold zeros.
 fn fill_places(
     list: &[u8],
     segments: &mut [u32],
@@ -184,10 +191,10 @@ fn fill_places(
     out: &mut [u64],
     places: &mut [u32],
 ) -> Places
-    requires { ⌜ (8192 ≤ length (now out)) × (2048 ≤ length (now places)) ⌝ }
-    ensures { λ r. ⌜ Placed r (length (now (segments .entry))) (now (segments .exit)) (now (masks .entry)) (now (masks .exit)) (now (out .entry)) (now (out .exit)) (now (places .entry)) (now (places .exit)) (parseMasks (length (now (segments .entry))) (length (now (masks .entry))) (now (list .entry))) ⌝ }
+    requires { ⌜ Cleared (now out) (now places) ⌝ }
+    ensures { λ r. ⌜ Placed r (length (now (segments .entry))) (now (segments .exit)) (length (now (masks .entry))) (now (masks .exit)) (length (now (out .entry))) (now (out .exit)) (length (now (places .entry))) (now (places .exit)) (parseMasks (length (now (segments .entry))) (length (now (masks .entry))) (now (list .entry))) ⌝ }
 {
-    match masks::lay_masks(list, segments, masks) {
+    match masks::segment_mask_matrix(list, segments, masks) {
         Masks::Count {
             masks: count,
             words,
@@ -204,8 +211,8 @@ fn fill_places(
 }
 
 // The segments of a list, the mask of each, the distinct ones of those that are not empty, in order of first segment, and for each segment
-// the place of its mask among these, or NONE. Masks, distinct ones and places are written over the fronts of their buffers, which stay as they
-// were lent behind them, and all through where the list is refused. Segments have zeros behind them, and are 0 where the list is refused.
+// the place of its mask among these, or NONE. Refused: every number of the four buffers is 0. Accepted: behind the answer's numbers there are
+// zeros.
 pub fn place_masks(
     list: &[u8],
     segments: &mut [u32],
@@ -213,10 +220,11 @@ pub fn place_masks(
     out: &mut [u64],
     places: &mut [u32],
 ) -> Places
-    ensures { λ r. ⌜ Placed r (length (now (segments .entry))) (now (segments .exit)) (now (masks .entry)) (now (masks .exit)) (now (out .entry)) (now (out .exit)) (now (places .entry)) (now (places .exit)) (parsePlaces (length (now (segments .entry))) (length (now (masks .entry))) (length (now (out .entry))) (length (now (places .entry))) (now (list .entry))) ⌝ }
+    ensures { λ r. ⌜ Placed r (length (now (segments .entry))) (now (segments .exit)) (length (now (masks .entry))) (now (masks .exit)) (length (now (out .entry))) (now (out .exit)) (length (now (places .entry))) (now (places .exit)) (parsePlaces (length (now (segments .entry))) (length (now (masks .entry))) (length (now (out .entry))) (length (now (places .entry))) (now (list .entry))) ⌝ }
 {
+    clear_both(out, places);
     if too_short(out.len(), places.len()) {
-        written::clear(segments);
+        clear_both(masks, segments);
         return Places::Refused(Refusal {
             number: ROOM,
             place: 0,
@@ -225,8 +233,7 @@ pub fn place_masks(
     fill_places(list, segments, masks, out, places)
 }
 
-// The same without the places, into buffers of zeros. Refused: every number of the three buffers is 0. Accepted: behind the answer's numbers
-// there are zeros.
+// The same without the places.
 pub fn distinct_masks(
     list: &[u8],
     segments: &mut [u32],
@@ -235,8 +242,6 @@ pub fn distinct_masks(
 ) -> Masks
     ensures { λ r. ⌜ Distinct r (length (now (segments .entry))) (now (segments .exit)) (length (now (masks .entry))) (now (masks .exit)) (length (now (out .entry))) (now (out .exit)) (parseDistinct (length (now (segments .entry))) (length (now (masks .entry))) (length (now (out .entry))) (now (list .entry))) ⌝ }
 {
-    written::clear_words(masks);
-    written::clear_words(out);
     let mut places = [0u32; 2048];
     match place_masks(list, segments, masks, out, &mut places) {
         Places::Found {

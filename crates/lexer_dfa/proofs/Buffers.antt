@@ -90,13 +90,14 @@ module _ (ts : List Transition) where
   pub length-distinct : length (flat (distinctOf ts)) ≡ length (distinctOf ts) * wordsFor (length ts)
   length-distinct = length-flat (wordsFor (length ts)) (distinctOf ts) (wide-distinct (wordsFor (length ts)) [] (matrix ts) tt (wide-masks (starts (cutsOf ts))))
 
-  pub bit-distinct : (post : List ℕ) (k i : ℕ) → k < length (distinctOf ts) → i < length ts →
-      bitAt (flat (distinctOf ts) ++ post) (k * wordsFor (length ts)) i ≡ maskBit (getD (distinctOf ts) k []) i
-  bit-distinct post k i h l =
+  pub bit-distinct : (n k i : ℕ) → k < length (distinctOf ts) → i < length ts →
+      bitAt (padded n (flat (distinctOf ts))) (k * wordsFor (length ts)) i ≡ maskBit (getD (distinctOf ts) k []) i
+  bit-distinct n k i h l =
       let words = wordsFor (length ts) in
       let here : k * words ≡ 0 + k * words = omega arith in
-      ap (λ (j : ℕ). bitAt (flat (distinctOf ts) ++ post) j i) here
-      ∙ bit-flat words (distinctOf ts) 0 post k i (wide-distinct words [] (matrix ts) tt (wide-masks (starts (cutsOf ts)))) (start (flat (distinctOf ts) ++ post)) h (omega arith)
+      ap (λ (j : ℕ). bitAt (padded n (flat (distinctOf ts))) j i) here
+      ∙ bit-flat words (distinctOf ts) 0 (zeros (n - length (flat (distinctOf ts)))) k i (wide-distinct words [] (matrix ts) tt (wide-masks (starts (cutsOf ts))))
+      (padded-stands n (flat (distinctOf ts))) h (omega arith)
 
 -- The mask of the segment that has a point
 

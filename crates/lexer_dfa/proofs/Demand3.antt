@@ -6,8 +6,8 @@ use mathlib.Core.Path.{_≡_, refl, sym, ap, ap₂, subst, _∙_}
 use mathlib.Core.Bool.{true}
 use mathlib.Core.List.{List, [], _∷_, _++_}
 use lib.Dec.{ltb}
-use lib.ListN.{length, getD, take, drop}
-use lib.Seq.{getD-take, take-at}
+use lib.ListN.{length, getD, take}
+use lib.Seq.{getD-take}
 use denote.Ref.{RefT}
 use borrow.Author.Tests.{lt-ltb, le-ltb, eq-eqb}
 use Rattle.refusal.specs.Said.{ok}
@@ -29,9 +29,8 @@ use Rattle.masks.specs.declared.Masks.the-variants.{Count}
 use Rattle.masks.specs.Masks.{bit, wordsFor, flat, matrix, distinctOf}
 use Rattle.masks.specs.Answer as masks
 use Rattle.masks.specs.Answer.{parseMasks, parseDistinct, masksIn, Matrix, Distinct}
-use Rattle.masks.proofs.Columns.{over-append}
 use Rattle.masks.proofs.Answers.{length-masks}
-use Rattle.distinct_masks.proofs.Answers.{accepted-list, distinct-fits}
+use Rattle.distinct_masks.proofs.Answers.{accepted-list}
 use Rattle.row_laws.specs.Row.{DEAD, numbers}
 use Rattle.row_laws.specs.Build.{targetRow, asciiOf, wideOf, escapeOf}
 use Rattle.row_laws.specs.Demand as law
@@ -42,7 +41,7 @@ use Rattle.row_laws.proofs.SameRows.{same-rows, wide-searchable, escape-searcha
 use Rattle.row_laws.proofs.Goals.{wide-given, escape-given}
 use Rattle.rows.specs.declared.Rows.{Rows}
 use Rattle.rows.specs.declared.Rows.the-variants.{Built, Refused}
-use Rattle.rows.specs.Answer.{said, Lent, lent, withRows, parseRows, counted, asciiIn, wideIn, escapeIn, masksLeft, Builds}
+use Rattle.rows.specs.Answer.{said, Lent, lent, withRows, parseRows, counted, asciiIn, wideIn, escapeIn, Builds}
 use Rattle.rows.proofs.Joining.{length-numbers}
 use Rattle.rows.proofs.Building.{rows-asked}
 use Rattle.lexer_dfa.specs.Demand3.{Read, listOf, wordsOf, bitAt, RowArgs, RowsLeft, BuildAnswers, Asked, searchedFor, targetAt, contAt, Placed, RowsKept, RowsIn, SameLookups, SameAnswers, SameRows, MatrixAnswers, pointBit, MasksAsked, MasksKept, Flipped, DistinctAnswers, MasksAgree}
@@ -53,8 +52,8 @@ use Rattle.lexer_dfa.proofs.Buffers.{padded-at, padded-front, padded-st
 record Laid (ts : List Transition) (targets conts : List ℕ) (n m : ℕ) (l : RowsLeft) : Type 0 where
   wide-count : n ≡ length (numbers (wideOf ts targets))
   escape-count : m ≡ length (numbers (escapeOf ts targets conts))
-  behind : List ℕ
-  distinct-is : l .distinct ≡ flat (distinctOf ts) ++ behind
+  distinct-room : ℕ
+  distinct-is : l .distinct ≡ padded distinct-room (flat (distinctOf ts))
   ascii-room : ℕ
   ascii-is : l .ascii ≡ padded ascii-room (asciiOf ts targets)
   wide-room : ℕ
@@ -79,7 +78,7 @@ module _ {ts : List Transition} {targets conts : List ℕ} {n m : ℕ} {l : Rows
       ap₂ (λ (k : ℕ) (b : List ℕ). searchedFor NONE b k p) (s .escape-count) (s .escape-is) ∙ searched-is NONE (s .escape-room) (escapeOf ts targets conts) p
 
   bit-is : (k i : ℕ) → k < length (distinctOf ts) → i < length ts → bitAt (l .distinct) (k * wordsFor (length ts)) i ≡ law.maskBit (getD (distinctOf ts) k []) i
-  bit-is k i h j = ap (λ (b : List ℕ). bitAt b (k * wordsFor (length ts)) i) (s .distinct-is) ∙ bit-distinct ts (s .behind) k i h j
+  bit-is k i h j = ap (λ (b : List ℕ). bitAt b (k * wordsFor (length ts)) i) (s .distinct-is) ∙ bit-distinct ts (s .distinct-room) k i h j
 
   ascii-front : take 128 (l .ascii) ≡ asciiOf ts targets
   ascii-front =
@@ -96,16 +95,16 @@ module _ {ts : List Transition} {targets conts : List ℕ} {n m : ℕ} {l : Rows
 
 -- where it answers rows, they are those of a list
 module _ {n m : ℕ} {given : Lent} {seg masks : List ℕ} {l : RowsLeft} {targets conts : List ℕ} where
-  built-laid : (ts : List Transition) → length (flat (distinctOf ts)) ≤ length (given .distinct) → Builds (Built n m) given seg masks (l .distinct) (l .ascii) (l .wide) (l .escape) targets conts (parsed ts) →
+  built-laid : (ts : List Transition) → Builds (Built n m) given seg masks (l .distinct) (l .ascii) (l .wide) (l .escape) targets conts (parsed ts) →
       Laid ts targets conts n m l
-  unfolding counted masksLeft asciiIn wideIn escapeIn
-  built-laid ts h b =
+  unfolding counted masksIn asciiIn wideIn escapeIn
+  built-laid ts b =
       let e = b .says in
       record {
         wide-count = cc;
         escape-count = cc;
-        behind = drop (length (flat (distinctOf ts))) (given .distinct);
-        distinct-is = b .once ∙ over-append (flat (distinctOf ts)) (given .distinct) h;
+        distinct-room = given .distinct;
+        distinct-is = b .once;
         ascii-room = given .ascii;
         ascii-is = b .narrow;
         wide-room = given .wide;
@@ -114,11 +113,11 @@ module _ {n m : ℕ} {given : Lent} {seg masks : List ℕ} {l : RowsLeft} {targe
         escape-is = b .escapes;
       }
 
-  some-laid : (x : Parsed) → ((ts : List Transition) → x ≡ parsed ts → length (flat (distinctOf ts)) ≤ length (given .distinct)) →
-      Builds (Built n m) given seg masks (l .distinct) (l .ascii) (l .wide) (l .escape) targets conts x → (ts : List Transition) × Laid ts targets conts n m l
+  some-laid : (x : Parsed) → Builds (Built n m) given seg masks (l .distinct) (l .ascii) (l .wide) (l .escape) targets conts x →
+      (ts : List Transition) × Laid ts targets conts n m l
   unfolding counted
-  some-laid (parsed ts) h b = (ts, built-laid ts (h ts refl) b)
-  some-laid (refused k p) h b = let e = b .says in let z : _≡_ {A = ℕ} 0 1 = cc in absurd (omega arith)
+  some-laid (parsed ts) b = (ts, built-laid ts b)
+  some-laid (refused k p) b = let e = b .says in let z : _≡_ {A = ℕ} 0 1 = cc in absurd (omega arith)
 
 -- the answer, where the list is accepted
 record Told (targets conts : List ℕ) (ts : List Transition) (x : Rows) : Type 0 where
@@ -159,12 +158,6 @@ asked-parsed a q =
     ap (withRows (lentBy a) (a .targets .now) (a .conts .now))
     (distinct-parsed (length (a .segments .now)) (length (a .masks .now)) (length (a .distinct .now)) (a .list .now) (q .segments-room) (q .masks-room) (q .distinct-room) (q .accepted))
     ∙ rows-parsed (lentBy a) (a .targets .now) (a .conts .now) (listOf (a .list .now)) (q .a-target-each) (q .a-continuation-each) (q .ascii-room) (q .wide-room) (q .escape-room)
-
--- .. and its distinct masks have room
-masks-fit : (a : RowArgs) (ts : List Transition) → parseRows (lentBy a) (a .list .now) (a .targets .now) (a .conts .now) ≡ parsed ts → length (flat (distinctOf ts)) ≤ length (a .distinct .now)
-masks-fit a ts e =
-    let y = parseDistinct (length (a .segments .now)) (length (a .masks .now)) (length (a .distinct .now)) (a .list .now) in
-    distinct-fits (length (a .segments .now)) (length (a .masks .now)) (length (a .distinct .now)) (a .list .now) ts (rows-asked (lentBy a) (a .targets .now) (a .conts .now) y e .0)
 
 -- the call's own contract, over what it left
 record Given (a : RowArgs) (x : Rows) (l : RowsLeft) : Type 0 where
@@ -228,14 +221,14 @@ rows-kept a q x l b =
     let h = subst (λ (y : Parsed). Builds x (lentBy a) (f .segments) (f .masks) (l .distinct) (l .ascii) (l .wide) (l .escape) targets conts y) (asked-parsed a q) (f .built) in
     let t = told x (h .says) in
     let g = subst (λ (y : Rows). Builds y (lentBy a) (f .segments) (f .masks) (l .distinct) (l .ascii) (l .wide) (l .escape) targets conts (parsed (listOf w))) (t .is) h in
-    subst (λ (y : Rows). RowsKept w targets conts y l) (sym (t .is)) (laid-kept w targets conts (q .accepted) (q .a-target-each) (built-laid (listOf w) (masks-fit a (listOf w) (asked-parsed a q)) g))
+    subst (λ (y : Rows). RowsKept w targets conts y l) (sym (t .is)) (laid-kept w targets conts (q .accepted) (q .a-target-each) (built-laid (listOf w) g))
 
 -- THEOREM: "Two builds whose rows answer the same target and continuation at every point have the same rows, number for number."
 pub rows-one : (a b : RowArgs) (n m : ℕ) (l : RowsLeft) (n′ m′ : ℕ) (k : RowsLeft) → BuildAnswers a (Built n m) l → BuildAnswers b (Built n′ m′) k →
     SameAnswers n m l n′ m′ k → SameRows n m l n′ m′ k
 rows-one a b n m l n′ m′ k x y e =
-    let f = some-laid _ (masks-fit a) (given a (Built n m) l x .built) in
-    let g = some-laid _ (masks-fit b) (given b (Built n′ m′) k y .built) in
+    let f = some-laid _ (given a (Built n m) l x .built) in
+    let g = some-laid _ (given b (Built n′ m′) k y .built) in
     let s = f .1 in
     let t = g .1 in
     let same =
@@ -255,7 +248,7 @@ rows-one a b n m l n′ m′ k x y e =
 -- THEOREM: where the rows stand in a table, `char_target` and `char_continuation` answer what was looked up in the buffers
 pub rows-in-table : (a : RowArgs) (n m : ℕ) (l : RowsLeft) → BuildAnswers a (Built n m) l → (t : Table) (s : ℕ) → RowsIn t s n m l → SameLookups t s n m l
 rows-in-table a n m l x t s i =
-    let b = some-laid _ (masks-fit a) (given a (Built n m) l x .built) .1 in
+    let b = some-laid _ (given a (Built n m) l x .built) .1 in
     let wides : n ≡ length (numbers (getD (t .wide) (stateOf t s .wide) [])) = b .wide-count ∙ ap length (sym (wide-front b) ∙ sym (i .wide)) in
     let escapes : m ≡ length (numbers (table.escapeOf t s .ranges)) = b .escape-count ∙ ap length (sym (escape-front b) ∙ sym (i .escape)) in
     record {
@@ -363,7 +356,7 @@ masks-agree list segments masks out n k d b a w e l y same =
     let ts = built .0 in
     let asked = rows-asked (lentBy a) (a .targets .now) (a .conts .now) (parseDistinct (length (a .segments .now)) (length (a .masks .now)) (length (a .distinct .now)) (a .list .now)) (built .1) in
     let read = ap parse (sym same) ∙ accepted-list (length (a .segments .now)) (length (a .masks .now)) (length (a .distinct .now)) (a .list .now) ts (asked .0) in
-    let laid = built-laid ts (masks-fit a ts (built .1)) (subst (λ (x : Parsed). Builds (Built w e) (lentBy a) (f .segments) (f .masks) (l .distinct) (l .ascii) (l .wide) (l .escape) (a .targets .now) (a .conts .now) x) (built .1) (f .built)) in
+    let laid = built-laid ts (subst (λ (x : Parsed). Builds (Built w e) (lentBy a) (f .segments) (f .masks) (l .distinct) (l .ascii) (l .wide) (l .escape) (a .targets .now) (a .conts .now) x) (built .1) (f .built)) in
     let tells = counted-parsed (length (out .now)) (parseDistinct (length (segments .now)) (length (masks .now)) (length (out .now)) bytes) (rw (b .3) at (b .2)) in
     let one : tells .ts ≡ ts = one-list (sym (accepted-list (length (segments .now)) (length (masks .now)) (length (out .now)) bytes (tells .ts) (tells .is)) ∙ read) in
     let count : n ≡ length (distinctOf ts) = tells .count ∙ ap (λ (x : List Transition). length (distinctOf x)) one in
@@ -377,5 +370,5 @@ masks-agree list segments masks out n k d b a w e l y same =
           ∙ padded-front (length (out .now)) (flat (distinctOf ts))
           ∙ sym
           (ap₂ (λ (j : ℕ) (x : List ℕ). take j x) size (laid .distinct-is)
-          ∙ take-at (flat (distinctOf ts)) (laid .behind) (length (flat (distinctOf ts))) refl);
+          ∙ padded-front (laid .distinct-room) (flat (distinctOf ts)));
     }

@@ -7,7 +7,6 @@ use Rattle.interval_ends.proofs.read_intervals.Reads as read-intervals
 use Rattle.transitions.proofs.Records as transitions
 use Rattle.segments.proofs.char_segments.Reads as char-segments
 use Rattle.segments.proofs.Answers as segments
-use Rattle.masks.proofs.lay_masks.Reads as lay-masks
 use Rattle.masks.proofs.segment_mask_matrix.Reads as segment-mask-matrix
 use Rattle.distinct_masks.proofs.distinct_masks.Reads as distinct-masks
 use Rattle.masks.proofs.Answers as masks
@@ -38,10 +37,6 @@ char-segments-unique κs a x y e f p q = (segments.said-one x y (p .says ∙ sym
 
 pub segment-mask-matrix-unique : DeterminesAll (λ κs e. e .1 .0 .now ∷ e .1 .1 .0 .now ∷ []) segment-mask-matrix.Learnt
 segment-mask-matrix-unique κs a x y e f p q =
-    (masks.said-one x y (p .says ∙ sym (q .says)), and (p .low-high ∙ sym (q .low-high)) (and (p .leaves ∙ sym (q .leaves)) refl))
-
-pub lay-masks-unique : DeterminesAll (λ κs e. e .1 .0 .now ∷ e .1 .1 .0 .now ∷ []) lay-masks.Learnt
-lay-masks-unique κs a x y e f p q =
     (masks.said-one x y (p .says ∙ sym (q .says)), and (p .low-high ∙ sym (q .low-high)) (and (p .leaves ∙ sym (q .leaves)) refl))
 
 -- .. and the distinct ones

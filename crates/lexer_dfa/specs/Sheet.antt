@@ -83,7 +83,7 @@ rowsSaid targets conts x = leftSaid (λ l. take 128 (asciiIn 128 targets x) ++ t
 
 -- the room that document 01 states for rows
 abbrev pub stated : Lent
-stated = record { segments = 4096; masks = zeros 8192; distinct = zeros 8192; ascii = 128; wide = 6144; escape = 6144 }
+stated = record { segments = 4096; masks = 8192; distinct = 8192; ascii = 128; wide = 6144; escape = 6144 }
 
 -- what a call says, by the definitions that the contracts cite
 abbrev pub saidBy : Call → Said

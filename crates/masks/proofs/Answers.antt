@@ -11,7 +11,7 @@ use mir.Syntax.{w64}
 use lib.ListN.{length, getD, length-replicate, length-append}
 use Rattle.refusal.specs.declared.Refusal.{Refusal}
 use Rattle.refusal.specs.Said.{Said, ok, no, ROOM}
-use Rattle.written.specs.Over.{over, lay, Put, zeros, padded}
+use Rattle.written.specs.Over.{lay, Put, zeros, padded}
 use Rattle.written.proofs.Overs.{lay-zeros}
 use Rattle.transitions.specs.declared.Transitions.{Transitions}
 use Rattle.transitions.specs.declared.Transitions.the-variants as told
@@ -33,9 +33,8 @@ use Rattle.masks.specs.declared.Places.{Places}
 use Rattle.masks.specs.declared.Places.the-variants as place
 use Rattle.masks.specs.Masks.{wordsFor, maskOf, masksAt, matrix, flat}
 use Rattle.masks.specs.Walk.{Fit, lows}
-use Rattle.masks.specs.Answer.{said, told, parseMasks, counted, masksIn, masksOver, Laid, Matrix, Ready}
+use Rattle.masks.specs.Answer.{said, told, parseMasks, counted, masksIn, Matrix, Ready}
 use Rattle.masks.proofs.Packs.{length-pack}
-use Rattle.masks.proofs.Columns.{lay-over}
 
 -- How many transitions a list has: no more than 256
 
@@ -107,18 +106,18 @@ unfolding masksAt flat
 few-words ts [] h = omega arith
 few-words ts (p ∷ ps) h = omega (arith, length-append (maskOf ts p) (flat (masksAt ts ps)), length-mask ts p, few-words ts ps h)
 
--- The masks of an accepted list, written over the front of a buffer
+-- The masks of an accepted list, written into a buffer of zeros
 
-is-laid : (s c k : ℕ) (x : Parsed) (ns old out : List ℕ) → isParsed x ≡ true → c ≡ length (starts (cutsOf (accepted x))) → k ≡ length (accepted x) →
-    ns ≡ segmentsIn s x → out ≡ over (flat (matrix (accepted x))) old → Laid (Count c ((k + 63) / 64)) s ns old out x
-unfolding isParsed accepted counted masksOver
-is-laid s c k (parsed ts) ns old out h a b l o =
+is-matrix : (s n c k : ℕ) (x : Parsed) (ns out : List ℕ) → isParsed x ≡ true → c ≡ length (starts (cutsOf (accepted x))) → k ≡ length (accepted x) →
+    ns ≡ segmentsIn s x → out ≡ padded n (flat (matrix (accepted x))) → Matrix (Count c ((k + 63) / 64)) s ns n out x
+unfolding isParsed accepted counted masksIn
+is-matrix s n c k (parsed ts) ns out h a b l o =
     record {
       says = ap₂ {C = Said} (λ x y. ok (x ∷ y ∷ [])) (a ∙ sym (length-masks ts (starts (cutsOf ts)))) (ap wordsFor b);
       low-high = l;
       leaves = o;
     }
-is-laid s c k (refused x p) ns old out h a b l o = let z : _≡_ {A = ℕ} 0 1 = cc in absurd (omega arith)
+is-matrix s n c k (refused x p) ns out h a b l o = let z : _≡_ {A = ℕ} 0 1 = cc in absurd (omega arith)
 
 module _ (w ns : List ℕ) (count : ℕ) (d : List ℕ) (r : Ready w ns count d) {n : ℕ} (e : n ≡ length (accepted (parse w))) where
   abbrev ts : List Transition
@@ -145,6 +144,9 @@ module _ (w ns : List ℕ) (count : ℕ) (d : List ℕ) (r : Ready w ns count d)
   pub fill-sound : Fit w n 0
   fill-sound = rw e (fit w (length ts) 0 (all .sound) (subst AllInOrder (all .is) (all .order)))
 
+  pub fill-empty : d ≡ zeros (length d)
+  fill-empty = r .empty
+
   pub fill-points : 2 * count ≤ length ns
   fill-points = omega (arith, r .each, few-segments w, r .long)
 
@@ -155,12 +157,12 @@ module _ (w ns : List ℕ) (count : ℕ) (d : List ℕ) (r : Ready w ns count d)
   fill-fits = omega (arith, few)
 
   pub fill-done : {k : ℕ} {out : List ℕ} → Put (flat (masksAt (transFrom w n 0) (lows ns count 0))) 0 d k out →
-      Laid (Count count ((n + 63) / 64)) (length ns) ns d out (parse w)
+      Matrix (Count count ((n + 63) / 64)) (length ns) ns (length d) out (parse w)
   fill-done p =
-      is-laid (length ns) count n (parse w) ns d _ (r .good) (r .each) e (r .points)
-      (p .is ∙ ap (λ (a : List ℕ). lay 0 a d) written ∙ lay-over (flat (matrix ts)) d)
+      is-matrix (length ns) (length d) count n (parse w) ns _ (r .good) (r .each) e (r .points)
+      (p .is ∙ ap₂ (λ (a b : List ℕ). lay 0 a b) written (r .empty) ∙ lay-zeros (length d) (flat (matrix ts)) fits)
 
-pub ruleset filling = (needs, fill-sound, fill-points, fill-room, fill-fits, fill-done)
+pub ruleset filling = (needs, fill-sound, fill-empty, fill-points, fill-room, fill-fits, fill-done)
 
 -- What the answer for segments says of the list
 
@@ -190,10 +192,11 @@ some-of n w {k} e =
     (λ h. let s = some (parse w) (e ∙ ap seg.counted (roomy n w h)) in record { good = s .0; size = s .1; room = h; is = roomy n w h })
     (λ h. let f = e ∙ ap seg.counted (short n w h) in let z : _≡_ {A = ℕ} 0 1 = cc in absurd (omega arith))
 
-none-of : (s : ℕ) (x : Parsed) (r : Refusal) (ns d : List ℕ) → seg.said (found.Refused r) ≡ seg.counted x → ns ≡ segmentsIn s x → Laid (Refused r) s ns d d x
-unfolding seg.counted counted masksOver
-none-of s (parsed ts) r ns d e l = let f : _≡_ {A = ℕ} 0 1 = cc in absurd (omega arith)
-none-of s (refused k p) r ns d e l = record { says = e; low-high = l; leaves = refl }
+none-of : (s n : ℕ) (x : Parsed) (r : Refusal) (ns d : List ℕ) → seg.said (found.Refused r) ≡ seg.counted x → ns ≡ segmentsIn s x → d ≡ zeros n →
+    Matrix (Refused r) s ns n d x
+unfolding seg.counted counted masksIn
+none-of s n (parsed ts) r ns d e l z = let f : _≡_ {A = ℕ} 0 1 = cc in absurd (omega arith)
+none-of s n (refused k p) r ns d e l z = record { says = e; low-high = l; leaves = z }
 
 length-in : (n : ℕ) (w : List ℕ) → 4096 ≤ n → isParsed (parse w) ≡ true → length (segmentsIn n (parse w)) ≡ n
 unfolding isParsed accepted segmentsIn
@@ -203,18 +206,21 @@ length-in n w h g = go (parse w) g (omega (arith, length-starts (cutsOf (accepte
     go (parsed ts) g l = length-padded n (segments (cutsOf ts)) l
     go (refused k p) g l = length-replicate n 0
 
--- The call for a mask of each segment
+-- The call for a mask of each segment: the buffer for masks was cleared first
 
-module _ (w a b : List ℕ) where
-  pub no-room : {ns : List ℕ} → length b < 8192 → ns ≡ zeros (length a) →
-      Laid (Refused (record { number = ROOM; place = 0 })) (length a) ns b b (parseMasks (length a) (length b) w)
-  unfolding parseMasks counted segmentsIn masksOver
-  no-room l s = rw (lt-ltb (length b) 8192 l) (record { says = refl; low-high = s; leaves = refl })
+module _ (w a b : List ℕ) {d : List ℕ} (z : d ≡ zeros (length b)) where
+  size : length d ≡ length b
+  size = ap length z ∙ length-replicate (length b) 0
 
-  module _ (l : 8192 ≤ length b) {got : Segments} {ns : List ℕ} (h : seg.Writes got (length a) ns (parseFor (length a) w)) where
+  pub no-room : {ns : List ℕ} → length d < 8192 → ns ≡ zeros (length a) →
+      Matrix (Refused (record { number = ROOM; place = 0 })) (length a) ns (length b) d (parseMasks (length a) (length b) w)
+  unfolding parseMasks counted segmentsIn masksIn
+  no-room l s = let h : length b < 8192 = omega (arith, size) in rw (lt-ltb (length b) 8192 h) (record { says = refl; low-high = s; leaves = z })
+
+  module _ (l : 8192 ≤ length d) {got : Segments} {ns : List ℕ} (h : seg.Writes got (length a) ns (parseFor (length a) w)) where
     behind : parseMasks (length a) (length b) w ≡ parseFor (length a) w
     unfolding parseMasks
-    behind = rw (le-ltb (length b) 8192 l)
+    behind = let g : 8192 ≤ length b = omega (arith, size) in rw (le-ltb (length b) 8192 g)
 
     module _ {k : ℕ} (e : got ≡ found.Count k) where
       is : Some (length a) w k
@@ -223,70 +229,25 @@ module _ (w a b : List ℕ) where
       same : length ns ≡ length a
       same = ap length (h .leaves ∙ ap (segmentsIn (length a)) (is .is)) ∙ length-in (length a) w (is .room) (is .good)
 
-      pub ready : Ready w ns k b
+      pub ready : Ready w ns k d
       ready =
           record {
             good = is .good;
             points = h .leaves ∙ ap₂ (λ (n : ℕ) (x : Parsed). segmentsIn n x) (sym same) (is .is);
             long = omega (arith, same, is .room);
             each = is .size;
+            empty = z ∙ ap zeros (sym size);
             room = l;
           }
 
-      pub masks-found : {r : Masks} {out : List ℕ} → Laid r (length ns) ns b out (parse w) → Laid r (length a) ns b out (parseMasks (length a) (length b) w)
-      masks-found m = rw (behind, is .is, ← same) m
+      pub matrix-found : {r : Masks} {out : List ℕ} → Matrix r (length ns) ns (length d) out (parse w) →
+          Matrix r (length a) ns (length b) out (parseMasks (length a) (length b) w)
+      matrix-found m = rw (behind, is .is, ← same, ← size) m
 
-    pub masks-refused : {r : Refusal} → got ≡ found.Refused r → Laid (Refused r) (length a) ns b b (parseMasks (length a) (length b) w)
-    masks-refused {r} e = rw behind (none-of (length a) (parseFor (length a) w) r ns b (ap seg.said (sym e) ∙ h .says) (h .leaves))
+    pub matrix-refused : {r : Refusal} → got ≡ found.Refused r → Matrix (Refused r) (length a) ns (length b) d (parseMasks (length a) (length b) w)
+    matrix-refused {r} e = rw behind (none-of (length a) (length b) (parseFor (length a) w) r ns d (ap seg.said (sym e) ∙ h .says) (h .leaves) z)
 
-pub ruleset answering = (needs, no-room, ready, masks-found, masks-refused)
-
--- What an accepted list had room for
-
-pub masks-asked : (s n : ℕ) (w : List ℕ) (ts : List Transition) → parseMasks s n w ≡ parsed ts → (parse w ≡ parsed ts) × (8192 ≤ n)
-unfolding parseMasks
-masks-asked s n w ts e =
-    le-cases 8192 n
-    (λ h.
-    le-cases 4096 s
-    (λ g. (sym (roomy s w g) ∙ (rw (le-ltb n 8192 h) at e), h))
-    (λ g. let f = sym (short s w g) ∙ (rw (le-ltb n 8192 h) at e) in let z : _≡_ {A = ℕ} 0 1 = cc in absurd (omega arith)))
-    (λ h. let f = rw (lt-ltb n 8192 h) at e in let z : _≡_ {A = ℕ} 0 1 = cc in absurd (omega arith))
-
--- no list has more than 256 transitions and 2,047 segments
-pub few-of : (w : List ℕ) (ts : List Transition) → parse w ≡ parsed ts → (length ts ≤ 256) × (length (starts (cutsOf ts)) ≤ 2047)
-unfolding accepted isParsed
-few-of w ts e =
-    let is : accepted (parse w) ≡ ts = ap accepted e in
-    (rw is at (few-from w 256 0 0 (ap isParsed e)), rw is at (few-segments w))
-
-pub matrix-fits : (s n : ℕ) (w : List ℕ) (ts : List Transition) → parseMasks s n w ≡ parsed ts → length (flat (matrix ts)) ≤ n
-matrix-fits s n w ts e =
-    let a = masks-asked s n w ts e in
-    let f = few-of w ts (a .0) in
-    omega (arith, few-words ts (starts (cutsOf ts)) (f .0), f .1, a .1)
-
--- Laid over zeros they have zeros behind them
-
-pub over-zeros : (f : List Transition → List (List ℕ)) (n : ℕ) (x : Parsed) → ((ts : List Transition) → x ≡ parsed ts → length (flat (f ts)) ≤ n) →
-    masksOver f (zeros n) x ≡ masksIn f n x
-unfolding masksOver masksIn
-over-zeros f n (parsed ts) h = sym (lay-over (flat (f ts)) (zeros n)) ∙ lay-zeros n (flat (f ts)) (h ts refl)
-over-zeros f n (refused k p) h = refl
-
-pub matrix-cleared : (w a b : List ℕ) {d : List ℕ} → d ≡ zeros (length b) → {r : Masks} {ns out : List ℕ} → Laid r (length a) ns d out (parseMasks (length a) (length d) w) →
-    Matrix r (length a) ns (length b) out (parseMasks (length a) (length b) w)
-matrix-cleared w a b {d} z {r} {ns} {out} m =
-    let size : length d ≡ length b = ap length z ∙ length-replicate (length b) 0 in
-    let x : Parsed = parseMasks (length a) (length b) w in
-    let g : Laid r (length a) ns d out x = subst (λ (n : ℕ). Laid r (length a) ns d out (parseMasks (length a) n w)) size m in
-    record {
-      says = g .says;
-      low-high = g .low-high;
-      leaves = g .leaves ∙ ap (λ (o : List ℕ). masksOver matrix o x) z ∙ over-zeros matrix (length b) x (matrix-fits (length a) (length b) w);
-    }
-
-pub ruleset clearing = (needs, length-replicate, matrix-cleared)
+pub ruleset answering = (needs, length-replicate, no-room, ready, matrix-found, matrix-refused)
 
 -- `said` and `told` take no two answers to one: what they say gives the answer back
 

@@ -1,19 +1,19 @@
 -- The laws of filling the masks record by record, one word for each segment. t is a record's transition, ns the numbers of the segments, w the
 -- list's bytes. Assumes nothing.
 use mathlib.Core.Path.{_≡_, refl, sym, ap, ap₂, subst, _∙_}
-use mathlib.Core.List.{List, [], _∷_, _++_}
+use mathlib.Core.List.{List, [], _∷_}
 use mathlib.Core.Bool.{true}
 use Prim.Native.Nat.{ℕ, zero, suc, _+_, _*_, _-_, _^_, _<_, _≤_}
 use native.Mathlib.Nat.{le-trans}
 use native.Mathlib.Omega.{arith}
 use borrow.Author.Needs.{needs}
-use lib.ListN.{length, getD, take, drop, set, replicate, length-append, length-set, length-replicate}
-use lib.Seq.{drop-at, drop-cons, drop-set-lt, getD-set-other, take-all}
+use lib.ListN.{length, getD, take, drop, set, length-set}
+use lib.Seq.{drop-cons, drop-set-lt, getD-set-other, take-all}
 use lib.Pow.{pow-mono}
 use mir.Val.{Fits}
 use mir.Syntax.{w64}
 use Rattle.written.specs.Over.{over, lay, Put, zeros}
-use Rattle.written.proofs.Overs.{lay-length, clear-turn}
+use Rattle.written.proofs.Overs.{lay-length}
 use Rattle.written.proofs.Going.{Going, going-start, going-done, going-put}
 use Rattle.transitions.specs.Transition.{Transition, origin, holds, holdAt, inOrder}
 use Rattle.transitions.specs.Bytes.{sizeAt, shapeOf, transOf}
@@ -137,12 +137,11 @@ over-words t ts [] d = refl
 over-words t ts (p ∷ ps) [] = refl
 over-words t ts (p ∷ ps) (x ∷ d) = ap (λ (xs : List ℕ). wordOf (holdAt (t ∷ ts) p) ∷ xs) (over-words t ts ps d)
 
--- without a record behind them the words are 0
-over-none : (ps d : List ℕ) → length ps ≤ length d → over (wordsAt [] ps) d ≡ zeros (length ps) ++ drop (length ps) d
+over-none : (ps : List ℕ) (n : ℕ) → over (wordsAt [] ps) (zeros n) ≡ zeros n
 unfolding wordsAt over wordOf holdAt
-over-none [] d l = refl
-over-none (p ∷ ps) [] l = absurd (omega arith)
-over-none (p ∷ ps) (x ∷ d) l = ap (λ (xs : List ℕ). 0 ∷ xs) (over-none ps d (omega arith))
+over-none [] n = refl
+over-none (p ∷ ps) zero = refl
+over-none (p ∷ ps) (suc n) = ap (λ (xs : List ℕ). 0 ∷ xs) (over-none ps n)
 
 length-holds : (ts : List Transition) (p : ℕ) → length (holdAt ts p) ≡ length ts
 unfolding holdAt
@@ -158,7 +157,7 @@ small-over ts (p ∷ ps) (x ∷ d) l zero h r =
     le-trans (wordOf-lt (holdAt ts p)) (pow-mono m)
 small-over ts (p ∷ ps) (x ∷ d) l (suc i) h r = small-over ts ps d l i (omega arith) (omega arith)
 
-pub lay-over : (xs d : List ℕ) → lay 0 xs d ≡ over xs d
+lay-over : (xs d : List ℕ) → lay 0 xs d ≡ over xs d
 unfolding lay
 lay-over xs d = refl
 
@@ -169,16 +168,6 @@ one-word ts (p ∷ ps) n h =
     let e : wordsFor (length ts) ≡ 1 = omega arith in
     let a : take 64 (holdAt ts p) ≡ holdAt ts p = take-all 64 (holdAt ts p) (omega (arith, length-holds ts p)) in
     rw (e, a) (ap (λ (xs : List ℕ). wordOf (holdAt ts p) ∷ xs) (one-word ts ps n h))
-
--- The words are made 0 first: those before k are
-
-pub front-here : (count k : ℕ) (d l : List ℕ) → k < count → count ≤ length d → length l ≡ length d → k < length l
-front-here count k d l a b c = omega arith
-
-pub front-done : (count k : ℕ) (d : List ℕ) {l : List ℕ} → count ≤ k → k ≤ count → l ≡ replicate k 0 ++ drop k d → l ≡ zeros count ++ drop count d
-front-done count k d a b e = let same : k ≡ count = omega arith in rw same at e
-
-pub ruleset fronts = (needs, clear-turn, front-here, front-done)
 
 -- The loop over the records, from the last
 
@@ -194,14 +183,12 @@ pub record Columning (w : List ℕ) (n : ℕ) (ns : List ℕ) (count : ℕ) (old
   pub size : length out ≡ length old
   pub is : out ≡ lay 0 (wordsAt (transFrom w (n - i) (nextOf w i 0)) (lows ns count 0)) old
 
-pub column-start : (w : List ℕ) (n : ℕ) (ns : List ℕ) (count : ℕ) (old : List ℕ) → old ≡ zeros count ++ drop count old → n ≤ 64 → count ≤ length old →
+pub column-start : (w : List ℕ) (n : ℕ) (ns : List ℕ) (count : ℕ) (old : List ℕ) → old ≡ zeros (length old) → n ≤ 64 → count ≤ length old →
     Columning w n ns count old n old
 unfolding transFrom
 column-start w n ns count old z f r =
     let e : n - n ≡ 0 = omega arith in
-    let l : length (lows ns count 0) ≡ count = length-lows ns count 0 in
-    let same : over (wordsAt [] (lows ns count 0)) old ≡ old =
-    over-none (lows ns count 0) old (omega arith) ∙ ap (λ (k : ℕ). zeros k ++ drop k old) l ∙ sym z in
+    let same : over (wordsAt [] (lows ns count 0)) old ≡ old = ap (over (wordsAt [] (lows ns count 0))) z ∙ over-none (lows ns count 0) (length old) ∙ sym z in
     record { more = omega arith; few = f; room = r; size = refl; is = rw e (sym (lay-over (wordsAt [] (lows ns count 0)) old ∙ same)) }
 
 module _ (w : List ℕ) (n : ℕ) (ns : List ℕ) (count : ℕ) (old : List ℕ) (i : ℕ) (out : List ℕ) (c : Columning w n ns count old i out) where
@@ -270,53 +257,16 @@ module _ (w : List ℕ) (n : ℕ) (ns : List ℕ) (count : ℕ) (old : List ℕ)
 
 pub ruleset columning = (needs, column-start, column-front, column-fit, column-there, column-room, column-turn, column-done)
 
--- There is room for a word for each segment, and the words are made 0 first
+-- There is room for a word for each segment
 
-pub over-append : (xs d : List ℕ) → length xs ≤ length d → over xs d ≡ xs ++ drop (length xs) d
-unfolding over
-over-append [] d h = refl
-over-append (x ∷ xs) [] h = absurd (omega arith)
-over-append (x ∷ xs) (y ∷ d) h = ap (λ (l : List ℕ). x ∷ l) (over-append xs d (omega arith))
+pub words-room : (w : List ℕ) (n : ℕ) (ns : List ℕ) (count : ℕ) {m : ℕ} → 0 + length (flat (masksAt (transFrom w n 0) (lows ns count 0))) ≤ m → 0 < n → n ≤ 64 → count ≤ m
+words-room w n ns count h l f =
+    let e : length (transFrom w n 0) ≡ n = length-trans w n 0 in
+    omega (
+      arith,
+      ap length (one-word (transFrom w n 0) (lows ns count 0) (omega arith) (omega arith)),
+      length-words (transFrom w n 0) (lows ns count 0),
+      length-lows ns count 0,
+    )
 
-module _ (count : ℕ) (old : List ℕ) {out : List ℕ} (z : out ≡ zeros count ++ drop count old) where
-  behind : drop count out ≡ drop count old
-  behind = ap (drop count) z ∙ drop-at (zeros count) (drop count old) count (length-replicate count 0)
-
-  pub front-empty : out ≡ zeros count ++ drop count out
-  front-empty = z ∙ ap (λ (l : List ℕ). zeros count ++ l) (sym behind)
-
-  pub front-size : length out ≡ count + length (drop count old)
-  front-size = ap length z ∙ length-append (zeros count) (drop count old) ∙ ap (λ (k : ℕ). k + length (drop count old)) (length-replicate count 0)
-
-  front-over : (xs : List ℕ) → length xs ≡ count → count ≤ length old → over xs out ≡ over xs old
-  front-over xs e h =
-      let a : length xs ≤ length out = omega (arith, front-size) in
-      let b : length xs ≤ length old = omega arith in
-      over-append xs out a ∙ (rw (e, behind)) ∙ sym (over-append xs old b)
-
-module _ (w : List ℕ) (n : ℕ) (ns : List ℕ) (count : ℕ) (l : 0 < n) (f : n ≤ 64) where
-  abbrev masks : List ℕ
-  masks = flat (masksAt (transFrom w n 0) (lows ns count 0))
-
-  length-one : length (flat (masksAt (transFrom w n 0) (lows ns count 0))) ≡ count
-  length-one =
-      let e : length (transFrom w n 0) ≡ n = length-trans w n 0 in
-      ap length (one-word (transFrom w n 0) (lows ns count 0) (omega arith) (omega arith)) ∙ length-words (transFrom w n 0) (lows ns count 0) ∙ length-lows ns count 0
-
-  module _ (old : List ℕ) (h : 0 + length (flat (masksAt (transFrom w n 0) (lows ns count 0))) ≤ length old) where
-    pub words-room : count ≤ length old
-    words-room = omega (arith, length-one)
-
-    module _ {out : List ℕ} (z : out ≡ zeros count ++ drop count old) where
-      pub words-there : count ≤ length out
-      words-there = omega (arith, front-size count old z)
-
-      pub words-put : {r : ℕ} {new : List ℕ} → Put (flat (masksAt (transFrom w n 0) (lows ns count 0))) 0 out r new →
-          Put (flat (masksAt (transFrom w n 0) (lows ns count 0))) 0 old r new
-      words-put p =
-          record {
-            next = p .next;
-            is = p .is ∙ lay-over masks out ∙ front-over count old z masks length-one words-room ∙ sym (lay-over masks old);
-          }
-
-pub ruleset choosing = (needs, words-room, front-empty, words-there, words-put)
+pub ruleset choosing = (needs, words-room)

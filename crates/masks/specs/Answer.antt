@@ -8,7 +8,7 @@ use lib.ListN.{length}
 use lib.Dec.{ltb}
 use Rattle.refusal.specs.Said.{Said, ok, no, ROOM}
 use Rattle.refusal.specs.Lists.{pick}
-use Rattle.written.specs.Over.{over, zeros, padded}
+use Rattle.written.specs.Over.{zeros, padded}
 use Rattle.transitions.specs.Transition.{Transition}
 use Rattle.transitions.specs.Read.{Parsed, parsed, refused, parse, isParsed, accepted}
 use Rattle.segments.specs.Segments.{cutsOf, starts}
@@ -41,18 +41,7 @@ unfoldable pub masksIn : (List Transition → List (List ℕ)) → ℕ → Parse
 masksIn f n (parsed ts) = padded n (flat (f ts))
 masksIn f n (refused k p) = zeros n
 
--- the same masks over the front of a buffer that held `old`: behind them it is as it was, and all of it where the list is refused
-unfoldable pub masksOver : (List Transition → List (List ℕ)) → List ℕ → Parsed → List ℕ
-masksOver f old (parsed ts) = over (flat (f ts)) old
-masksOver f old (refused k p) = old
-
--- the answer says it, and the buffers hold it: the segments, and a mask for each, over what the buffer for masks held ..
-pub record Laid (r : Masks) (s : ℕ) (segments old masks : List ℕ) (x : Parsed) : Type 0 where
-  pub says : said r ≡ counted matrix x
-  pub low-high : segments ≡ segmentsIn s x
-  pub leaves : masks ≡ masksOver matrix old x
-
--- .. or with zeros behind them ..
+-- the answer says it, and the buffers hold it: the segments, and a mask for each ..
 pub record Matrix (r : Masks) (s : ℕ) (segments : List ℕ) (n : ℕ) (masks : List ℕ) (x : Parsed) : Type 0 where
   pub says : said r ≡ counted matrix x
   pub low-high : segments ≡ segmentsIn s x
@@ -65,8 +54,7 @@ pub record Distinct (r : Masks) (s : ℕ) (segments : List ℕ) (n : ℕ) (masks
   pub each : masks ≡ masksIn matrix n x
   pub leaves : distinct ≡ masksIn distinctOf d x
 
--- Where each segment's mask stands among the distinct ones, which row building asks for. The buffers for masks, for distinct masks and for
--- places held `old`, `olds` and `oldest`
+-- Where each segment's mask stands among the distinct ones, which row building asks for
 
 -- how many segments, how many distinct masks, and of how many words each, or a refusal
 abbrev pub told : Places → Said
@@ -81,21 +69,22 @@ unfoldable pub foundIn : Parsed → Said
 foundIn (parsed ts) = ok (length (starts (cutsOf ts)) ∷ length (distinctOf ts) ∷ wordsFor (length ts) ∷ [])
 foundIn (refused k p) = no k p
 
-unfoldable pub placesOver : List ℕ → Parsed → List ℕ
-placesOver old (parsed ts) = over (placesOf ts) old
-placesOver old (refused k p) = old
+unfoldable pub placedIn : ℕ → Parsed → List ℕ
+placedIn n (parsed ts) = padded n (placesOf ts)
+placedIn n (refused k p) = zeros n
 
-pub record Placed (r : Places) (s : ℕ) (segments old masks olds distinct oldest places : List ℕ) (x : Parsed) : Type 0 where
+pub record Placed (r : Places) (s : ℕ) (segments : List ℕ) (n : ℕ) (masks : List ℕ) (d : ℕ) (distinct : List ℕ) (p : ℕ) (places : List ℕ) (x : Parsed) : Type 0 where
   pub says : told r ≡ foundIn x
   pub low-high : segments ≡ segmentsIn s x
-  pub each : masks ≡ masksOver matrix old x
-  pub once : distinct ≡ masksOver distinctOf olds x
-  pub leaves : places ≡ placesOver oldest x
+  pub each : masks ≡ masksIn matrix n x
+  pub once : distinct ≡ masksIn distinctOf d x
+  pub leaves : places ≡ placedIn p x
 
--- On the way there: the segments of an accepted list stand, and the buffer for masks is long enough
+-- On the way there: the segments of an accepted list stand, and the buffer for masks is empty
 pub record Ready (w segments : List ℕ) (count : ℕ) (masks : List ℕ) : Type 0 where
   pub good : isParsed (parse w) ≡ true
   pub points : segments ≡ segmentsIn (length segments) (parse w)
   pub long : 4096 ≤ length segments
   pub each : count ≡ length (starts (cutsOf (accepted (parse w))))
+  pub empty : masks ≡ zeros (length masks)
   pub room : 8192 ≤ length masks

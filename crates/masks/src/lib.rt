@@ -3,8 +3,7 @@
 ghost use mathlib.Core.Path.{_≡_};
 ghost use mathlib.Core.Bool.{true};
 ghost use Prim.Native.Nat.{_+_, _*_, _/_, _≤_, _<_, min};
-ghost use mathlib.Core.List.{_++_};
-ghost use lib.ListN.{length, drop};
+ghost use lib.ListN.{length};
 ghost use Rattle.written.specs.Over.{lay, Put, zeros};
 ghost use Rattle.transitions.specs.Transition.{origin, atom, holds, holdAt, inOrder};
 ghost use Rattle.transitions.specs.Bytes.{numberAt, sizeAt, shapeOf, transOf};
@@ -12,7 +11,7 @@ ghost use Rattle.transitions.specs.Read.{parse, accepted};
 ghost use Rattle.transitions.specs.Walk.{transAt, transFrom};
 ghost use Rattle.masks.specs.Masks.{bit, wordOf, maskOf, masksAt, flat};
 ghost use Rattle.masks.specs.Walk.{Fit, nextOf, Rises, Passed, Reach, Floor, last, Spans, byLow, Tells, Covers, lows, column, Columned};
-ghost use Rattle.masks.specs.Answer.{parseMasks, Laid, Matrix, Ready};
+ghost use Rattle.masks.specs.Answer.{parseMasks, Matrix, Ready};
 use refusal::ROOM;
 use refusal::Refusal;
 use segments::Segments;
@@ -352,25 +351,13 @@ fn record_column(list: &[u8], at: usize, segments: &[u32], count: usize, out: &m
     add_column(list, tag, size, at + 3, segments, count, out);
 }
 
-// Makes the first `count` words 0.
-fn clear_front(out: &mut [u64], count: usize)
-    requires { ⌜ count ≤ length (now out) ⌝ }
-    ensures { λ _. ⌜ now (out .exit) ≡ zeros count ++ drop count (now (out .entry)) ⌝ }
-{
-    let mut k: usize = 0;
-    while k < count {
-        out[k] = 0;
-        k += 1;
-    }
-}
-
-// Writes the masks of `count` segments, one word each, over as many zeros, record by record from the last, and answers how many words they are.
+// Writes the masks of `count` segments, one word each, record by record from the last, and answers how many words they are.
 fn put_columns(list: &[u8], n: usize, segments: &[u32], count: usize, out: &mut [u64]) -> usize
     requires sound { ⌜ Fit (now list) n 0 ⌝ }
     requires few { ⌜ (0 < n) × (n ≤ 64) ⌝ }
     requires points { ⌜ 2 * count ≤ length (now segments) ⌝ }
     requires room { ⌜ count ≤ length (now out) ⌝ }
-    requires empty { ⌜ now out ≡ zeros count ++ drop count (now out) ⌝ }
+    requires empty { ⌜ now out ≡ zeros (length (now out)) ⌝ }
     ensures { λ r. ⌜ Put (flat (masksAt (transFrom (now (list .entry)) n 0) (lows (now (segments .entry)) count 0))) 0 (now (out .entry)) r (now (out .exit)) ⌝ }
 {
     let mut i = n;
@@ -401,16 +388,16 @@ fn put_rows(list: &[u8], n: usize, segments: &[u32], count: usize, out: &mut [u6
     k
 }
 
-// Writes the masks of `count` segments over the front of a buffer, and answers how many words they are.
+// Writes the masks of `count` segments into a buffer of zeros, and answers how many words they are.
 fn put_masks(list: &[u8], n: usize, segments: &[u32], count: usize, out: &mut [u64]) -> usize
     requires sound { ⌜ Fit (now list) n 0 ⌝ }
     requires points { ⌜ 2 * count ≤ length (now segments) ⌝ }
     requires room { ⌜ 0 + length (flat (masksAt (transFrom (now list) n 0) (lows (now segments) count 0))) ≤ length (now out) ⌝ }
+    requires empty { ⌜ now out ≡ zeros (length (now out)) ⌝ }
     ensures { λ r. ⌜ Put (flat (masksAt (transFrom (now (list .entry)) n 0) (lows (now (segments .entry)) count 0))) 0 (now (out .entry)) r (now (out .exit)) ⌝ }
 {
     if 0 < n {
         if n <= 64 {
-            clear_front(out, count);
             return put_columns(list, n, segments, count, out);
         }
     }
@@ -427,10 +414,10 @@ fn transition_count(list: &[u8]) -> usize
     }
 }
 
-// The masks of the segments that stand, over the front of a buffer.
+// The masks of the segments that stand, into a buffer of zeros.
 fn fill_masks(list: &[u8], segments: &[u32], count: usize, masks: &mut [u64]) -> Masks
     requires { ⌜ Ready (now list) (now segments) count (now masks) ⌝ }
-    ensures { λ r. ⌜ Laid r (length (now (segments .entry))) (now (segments .entry)) (now (masks .entry)) (now (masks .exit)) (parse (now (list .entry))) ⌝ }
+    ensures { λ r. ⌜ Matrix r (length (now (segments .entry))) (now (segments .entry)) (length (now (masks .entry))) (now (masks .exit)) (parse (now (list .entry))) ⌝ }
 {
     let n = transition_count(list);
     put_masks(list, n, segments, count, masks);
@@ -440,11 +427,12 @@ fn fill_masks(list: &[u8], segments: &[u32], count: usize, masks: &mut [u64]) ->
     }
 }
 
-// The segments of a list as low, high, and for each its mask, over the front of the buffer for masks: behind them, and where the list is
-// refused, it stays as it was lent. Row building asks for them so, since it would take longer to clear the buffer than to build short rows.
-pub fn lay_masks(list: &[u8], segments: &mut [u32], masks: &mut [u64]) -> Masks
-    ensures { λ r. ⌜ Laid r (length (now (segments .entry))) (now (segments .exit)) (now (masks .entry)) (now (masks .exit)) (parseMasks (length (now (segments .entry))) (length (now (masks .entry))) (now (list .entry))) ⌝ }
+// The segments of a list as low, high, and for each its mask. Refused: every number of both buffers is 0. Accepted: behind the answer's
+// numbers there are zeros.
+pub fn segment_mask_matrix(list: &[u8], segments: &mut [u32], masks: &mut [u64]) -> Masks
+    ensures { λ r. ⌜ Matrix r (length (now (segments .entry))) (now (segments .exit)) (length (now (masks .entry))) (now (masks .exit)) (parseMasks (length (now (segments .entry))) (length (now (masks .entry))) (now (list .entry))) ⌝ }
 {
+    written::clear_words(masks);
     if masks.len() < WORDS {
         written::clear(segments);
         return Masks::Refused(Refusal {
@@ -456,12 +444,4 @@ pub fn lay_masks(list: &[u8], segments: &mut [u32], masks: &mut [u64]) -> Masks
         Segments::Count(count) => fill_masks(list, segments, count, masks),
         Segments::Refused(r) => Masks::Refused(r),
     }
-}
-
-// The same, into a buffer of zeros. Refused: every number of both buffers is 0. Accepted: behind the answer's numbers there are zeros.
-pub fn segment_mask_matrix(list: &[u8], segments: &mut [u32], masks: &mut [u64]) -> Masks
-    ensures { λ r. ⌜ Matrix r (length (now (segments .entry))) (now (segments .exit)) (length (now (masks .entry))) (now (masks .exit)) (parseMasks (length (now (segments .entry))) (length (now (masks .entry))) (now (list .entry))) ⌝ }
-{
-    written::clear_words(masks);
-    lay_masks(list, segments, masks)
 }

@@ -7,14 +7,14 @@ use native.Mathlib.Omega.{arith}
 use borrow.Author.Needs.{needs}
 use borrow.Author.Tests.{eq-eqb, ne-eqb, eqb-true, lt-ltb, le-ltb, ltb-false}
 use lib.Dec.{eqb, ltb}
-use lib.ListN.{length, getD, drop, length-append, length-replicate, List·getD-eq-default}
+use lib.ListN.{length, getD, length-append, length-replicate, List·getD-eq-default}
 use Rattle.refusal.specs.declared.Refusal.{Refusal}
 use Rattle.refusal.specs.Said.{Said, ok, no, ROOM, TARGETS}
 use Rattle.refusal.specs.Lists.{pick}
 use Rattle.refusal.specs.Fixed.{NONE}
 use Rattle.table.proofs.Codec.{At, start, on, at-head}
-use Rattle.written.specs.Over.{over, lay, zeros, padded}
-use Rattle.written.proofs.Overs.{over-length, lay-zeros}
+use Rattle.written.specs.Over.{lay, zeros, padded}
+use Rattle.written.proofs.Overs.{lay-zeros}
 use Rattle.transitions.specs.Transition.{Transition}
 use Rattle.transitions.specs.Read.{Parsed, parsed, refused, parse, accepted}
 use Rattle.segments.specs.Segments.{Asc, cutsOf, starts, startsFrom, segments, segmentsFrom}
@@ -22,9 +22,8 @@ use Rattle.segments.specs.Answer.{segmentsIn}
 use Rattle.segments.proofs.Answers.{length-starts, few-segments}
 use Rattle.masks.specs.declared.Places.{Places}
 use Rattle.masks.specs.declared.Places.the-variants as place
-use Rattle.masks.specs.Masks.{maskOf, masksAt, matrix, isZero, distinctOf, placeOf, placesIn, placesOf}
-use Rattle.masks.specs.Answer.{told, parseDistinct, parsePlaces, foundIn, masksOver, placesOver, Placed}
-use Rattle.masks.proofs.Columns.{over-append}
+use Rattle.masks.specs.Masks.{maskOf, masksAt, matrix, flat, isZero, distinctOf, placeOf, placesIn, placesOf}
+use Rattle.masks.specs.Answer.{told, parseDistinct, parsePlaces, foundIn, masksIn, placedIn, Placed}
 use Rattle.masks.proofs.Keeps.{place-some, place-none}
 use Rattle.masks.proofs.Answers.{length-masks}
 use Rattle.distinct_masks.proofs.Distincts.{length-places, few-distinct}
@@ -37,8 +36,8 @@ use Rattle.row_laws.proofs.Parts.{length-values}
 use Rattle.lookup_laws.specs.Looks.{goalAt}
 use Rattle.rows.specs.declared.Rows.{Rows}
 use Rattle.rows.specs.declared.Rows.the-variants.{Built, Refused}
-use Rattle.rows.specs.Answer.{said, Lent, lent, tooShort, withRows, parseRows, counted, asciiIn, wideIn, escapeIn, masksLeft, Builds}
-use Rattle.rows.specs.Aimed.{rangeOf, goalOf, noGoal, aimed, living, joined, Standing, Filled, differs, refusalOf, judged, allowed, Judged}
+use Rattle.rows.specs.Answer.{said, Lent, lent, tooShort, withRows, parseRows, counted, asciiIn, wideIn, escapeIn, Builds}
+use Rattle.rows.specs.Aimed.{rangeOf, goalOf, noGoal, aimed, living, joined, Filled, differs, refusalOf}
 use Rattle.rows.proofs.Living.{living-joined, look-living, part-joined, part-all}
 use Rattle.rows.proofs.Joining.{few-joined}
 use Rattle.rows.proofs.Parting.{values-same}
@@ -79,114 +78,48 @@ long a w e h = go (ltb a 128) refl (ltb w 6144) refl (ltb e 6144) refl h
     go false i true j z k q = absurd (false≢true (sym q))
     go false i false j true k q = absurd (false≢true (sym q))
 
--- .. judge what was found of a list, and the list
+some-refusal : (b t : Bool) (x : Parsed) {number : ℕ} → number ≡ refusalOf (pick b false true) t → (number ≡ 0 → ⊥) →
+    pick b (pick t (refused ROOM 0) x) (refused TARGETS 0) ≡ refused number 0
+some-refusal true true x e n = ap (λ k. refused k 0) (sym e)
+some-refusal true false x e n = absurd (n e)
+some-refusal false t x e n = ap (λ k. refused k 0) (sym e)
 
-module _ (t c : ℕ) (short : Bool) {found : Places} {s m k : ℕ} (i : found ≡ place.Found s m k) {o : Bool} (b : o ≡ differs m t c) {number : ℕ} (n : number ≡ refusalOf o short) where
-  number-is : number ≡ refusalOf (differs m t c) short
-  number-is = n ∙ ap (λ (x : Bool). refusalOf x short) b
+all-well : (b t : Bool) → refusalOf (pick b false true) t ≡ 0 → (b ≡ true) × (t ≡ false)
+all-well true true e = absurd (omega arith)
+all-well true false e = (refl, refl)
+all-well false t e = absurd (omega arith)
 
-  pub allow-none : (number ≡ 0 → ⊥) → place.Refused (record { number = number; place = 0 }) ≡ allowed t c short found
-  unfolding allowed
-  allow-none q = rw (i, ← number-is, ne-eqb number 0 q)
+-- .. judge a list whose masks have their places: d is how many distinct masks were found
 
-  pub allow-found : number ≡ 0 → place.Found s m k ≡ allowed t c short found
-  unfolding allowed
-  allow-found q = rw (i, sym number-is ∙ q)
+unfoldable judged : ℕ → ℕ → Bool → Parsed → Parsed
+judged t c short (parsed ts) = pick (eqb t (length (distinctOf ts)) && eqb c (length (distinctOf ts))) (pick short (refused ROOM 0) (parsed ts)) (refused TARGETS 0)
+judged t c short (refused k p) = refused k p
 
-pub allow-refused : (t c : ℕ) (short : Bool) {found : Places} {r : Refusal} → found ≡ place.Refused r → place.Refused r ≡ allowed t c short found
-unfolding allowed
-allow-refused t c short i = rw i
-
-pub ruleset allowing = (needs, allow-none, allow-found, allow-refused)
-
-allowed-says : (t c : ℕ) (short : Bool) (found : Places) (y : Parsed) → told found ≡ foundIn y → told (allowed t c short found) ≡ foundIn (judged t c short y)
-unfolding allowed judged foundIn
-allowed-says t c short (place.Found s m k) (parsed ts) e =
-    let i : m ≡ length (distinctOf ts) = cc in
-    rw (← i) (go (eqb t m && eqb c m) short)
-  where
-    go : (f g : Bool) →
-        told (pick (eqb (refusalOf (pick f false true) g) 0) (place.Found s m k) (place.Refused (record { number = refusalOf (pick f false true) g; place = 0 })))
-        ≡ foundIn (pick f (pick g (refused ROOM 0) (parsed ts)) (refused TARGETS 0))
-    go true true = refl
-    go true false = e
-    go false g = refl
-allowed-says t c short (place.Found s m k) (refused a b) e = let z : _≡_ {A = ℕ} 0 1 = cc in absurd (omega arith)
-allowed-says t c short (place.Refused r) (parsed ts) e = let z : _≡_ {A = ℕ} 0 1 = cc in absurd (omega arith)
-allowed-says t c short (place.Refused r) (refused a b) e = e
-
-judged-back : (t c : ℕ) (short : Bool) (y : Parsed) {ts : List Transition} → judged t c short y ≡ parsed ts →
-    (y ≡ parsed ts) × (t ≡ length (distinctOf ts)) × (c ≡ length (distinctOf ts)) × (short ≡ false)
-unfolding judged
-judged-back t c short (refused k p) e = let z : _≡_ {A = ℕ} 0 1 = cc in absurd (omega arith)
-judged-back t c short (parsed us) {ts} e = go (eqb t (length (distinctOf us))) refl (eqb c (length (distinctOf us))) refl short refl e
-  where
-    go : (f : Bool) → eqb t (length (distinctOf us)) ≡ f → (g : Bool) → eqb c (length (distinctOf us)) ≡ g → (h : Bool) → short ≡ h → pick (f && g) (pick h (refused ROOM 0) (parsed us)) (refused TARGETS 0) ≡ parsed ts →
-        (parsed us ≡ parsed ts) × (t ≡ length (distinctOf ts)) × (c ≡ length (distinctOf ts)) × (short ≡ false)
-    go true i true j false k e =
-        let same : us ≡ ts = cc in
-        (e, eqb-true t (length (distinctOf us)) i ∙ ap (λ (x : List Transition). length (distinctOf x)) same, eqb-true c (length (distinctOf us)) j ∙ ap (λ (x : List Transition). length (distinctOf x)) same, k)
-    go true i true j true k e = let z : _≡_ {A = ℕ} 0 1 = cc in absurd (omega arith)
-    go true i false j h k e = let z : _≡_ {A = ℕ} 0 1 = cc in absurd (omega arith)
-    go false i g j h k e = let z : _≡_ {A = ℕ} 0 1 = cc in absurd (omega arith)
-
--- a list that was found, or refused
-found-list : (x : Parsed) {c m k : ℕ} → told (place.Found c m k) ≡ foundIn x → (ts : List Transition) × (x ≡ parsed ts) × (c ≡ length (starts (cutsOf ts)))
+masks-are : {a m k : ℕ} (ts : List Transition) → told (place.Found a m k) ≡ foundIn (parsed ts) → m ≡ length (distinctOf ts)
 unfolding foundIn
-found-list (parsed ts) {c} e = let a : c ≡ length (starts (cutsOf ts)) = cc in (ts, refl, a)
-found-list (refused k p) e = let z : _≡_ {A = ℕ} 0 1 = cc in absurd (omega arith)
+masks-are ts e = cc
 
-found-none : (x : Parsed) {r : Refusal} → told (place.Refused r) ≡ foundIn x → x ≡ refused (r .number) (r .place)
-unfolding foundIn
-found-none (parsed ts) e = let z : _≡_ {A = ℕ} 0 1 = cc in absurd (omega arith)
-found-none (refused k p) e = cc
+module _ (t c : ℕ) (short : Bool) {s n d p : ℕ} {ns ms ds ps : List ℕ} where
+  judge-refused : (x : Parsed) {r : Refusal} → Placed (place.Refused r) s ns n ms d ds p ps x → Placed (place.Refused r) s ns n ms d ds p ps (judged t c short x)
+  unfolding judged foundIn
+  judge-refused (refused k q) h = h
+  judge-refused (parsed ts) h = let says = h .says in let z : _≡_ {A = ℕ} 0 1 = cc in absurd (omega arith)
 
--- The segments, masks and places of a list that may be refused
+  module _ {a m k : ℕ} where
+    judge-found : (x : Parsed) → Placed (place.Found a m k) s ns n ms d ds p ps x → refusalOf (differs m t c) short ≡ 0 → Placed (place.Found a m k) s ns n ms d ds p ps (judged t c short x)
+    unfolding judged foundIn
+    judge-found (refused j q) h e = let says = h .says in let z : _≡_ {A = ℕ} 0 1 = cc in absurd (omega arith)
+    judge-found (parsed ts) h e =
+        let i : m ≡ length (distinctOf ts) = masks-are ts (h .says) in
+        let z : (eqb t m && eqb c m ≡ true) × (short ≡ false) = all-well (eqb t m && eqb c m) short e in
+        rw (← i, z .0, z .1) h
 
-module _ (w sg mk ds pl : List ℕ) (t c : ℕ) (short : Bool) (room : 2048 ≤ length pl) {found : Places} {sg₁ mk₁ ds₁ ps : List ℕ}
-    (h : Placed found (length sg) sg₁ mk mk₁ ds ds₁ pl ps (parsePlaces (length sg) (length mk) (length ds) (length pl) w)) {got : Places} (g : got ≡ allowed t c short found) where
-  abbrev read : Parsed
-  read = parseDistinct (length sg) (length mk) (length ds) w
-
-  abbrev after : Parsed
-  after = judged t c short read
-
-  placed : Placed found (length sg) sg₁ mk mk₁ ds ds₁ pl ps read
-  placed = rw (roomy-places (length sg) (length mk) (length ds) (length pl) w room) at h
-
-  says : {other : Places} → got ≡ other → told other ≡ foundIn after
-  says i = ap told (sym i ∙ g) ∙ allowed-says t c short found read (placed .says)
-
-  pub judge-found : {n m k : ℕ} → got ≡ place.Found n m k →
-      Judged (place.Found n m k) (length sg) sg₁ mk mk₁ ds ds₁ pl ps (judged t c short (parseDistinct (length sg) (length mk) (length ds) w))
-  unfolding segmentsIn masksOver placesOver masksLeft
-  judge-found {n} {m} {k} i =
-      let f = found-list after (says i) in
-      let b : read ≡ parsed (f .0) = judged-back t c short read (f .1) .0 in
-      let q : Placed found (length sg) sg₁ mk mk₁ ds ds₁ pl ps (parsed (f .0)) = rw b at placed in
-      record {
-        says = says i;
-        low-high = q .low-high ∙ ap (segmentsIn (length sg)) (sym (f .1));
-        each = q .each ∙ ap (masksLeft matrix mk) (sym (f .1));
-        once = q .once ∙ ap (masksLeft distinctOf ds) (sym (f .1));
-        where-each = λ ts e. let same : f .0 ≡ ts = cc in q .leaves ∙ ap (λ (us : List Transition). over (placesOf us) pl) same;
-      }
-
-  pub judge-none : {r : Refusal} {sg₂ mk₂ ds₂ : List ℕ} → got ≡ place.Refused r → (sg₂ ≡ zeros (length sg₁)) × (mk₂ ≡ zeros (length mk₁)) × (ds₂ ≡ zeros (length ds₁)) →
-      length sg₁ ≡ length sg → length mk₁ ≡ length mk → length ds₁ ≡ length ds →
-      Judged (place.Refused r) (length sg) sg₂ mk mk₂ ds ds₂ pl ps (judged t c short (parseDistinct (length sg) (length mk) (length ds) w))
-  unfolding segmentsIn masksLeft
-  judge-none {r} i v a b e =
-      let n : after ≡ refused (r .number) (r .place) = found-none after (says i) in
-      record {
-        says = says i;
-        low-high = v .0 ∙ ap zeros a ∙ ap (segmentsIn (length sg)) (sym n);
-        each = v .1 ∙ ap zeros b ∙ ap (masksLeft matrix mk) (sym n);
-        once = v .2 ∙ ap zeros e ∙ ap (masksLeft distinctOf ds) (sym n);
-        where-each = λ ts q. let z : _≡_ {A = ℕ} 0 1 = cc in absurd (omega arith);
-      }
-
-pub ruleset judging = (needs, judge-found, judge-none)
+    judge-none : (x : Parsed) {j : ℕ} → Placed (place.Found a m k) s ns n ms d ds p ps x → j ≡ refusalOf (differs m t c) short → (j ≡ 0 → ⊥) → judged t c short x ≡ refused j 0
+    unfolding judged foundIn
+    judge-none (refused j q) h e o = let says = h .says in let z : _≡_ {A = ℕ} 0 1 = cc in absurd (omega arith)
+    judge-none (parsed ts) h e o =
+        let i : m ≡ length (distinctOf ts) = masks-are ts (h .says) in
+        rw (← i) (some-refusal (eqb t m && eqb c m) short (parsed ts) e o)
 
 -- What was given a mask is what was given its place
 
@@ -264,10 +197,48 @@ unfolding judged withRows
 judged-is l targets conts (parsed ts) = refl
 judged-is l targets conts (refused k p) = refl
 
+judged-back : (t c : ℕ) (short : Bool) (y : Parsed) {ts : List Transition} → judged t c short y ≡ parsed ts →
+    (y ≡ parsed ts) × (t ≡ length (distinctOf ts)) × (c ≡ length (distinctOf ts)) × (short ≡ false)
+unfolding judged
+judged-back t c short (refused k p) e = let z : _≡_ {A = ℕ} 0 1 = cc in absurd (omega arith)
+judged-back t c short (parsed us) {ts} e = go (eqb t (length (distinctOf us))) refl (eqb c (length (distinctOf us))) refl short refl e
+  where
+    go : (f : Bool) → eqb t (length (distinctOf us)) ≡ f → (g : Bool) → eqb c (length (distinctOf us)) ≡ g → (h : Bool) → short ≡ h → pick (f && g) (pick h (refused ROOM 0) (parsed us)) (refused TARGETS 0) ≡ parsed ts →
+        (parsed us ≡ parsed ts) × (t ≡ length (distinctOf ts)) × (c ≡ length (distinctOf ts)) × (short ≡ false)
+    go true i true j false k e =
+        let same : us ≡ ts = cc in
+        (e, eqb-true t (length (distinctOf us)) i ∙ ap (λ (x : List Transition). length (distinctOf x)) same, eqb-true c (length (distinctOf us)) j ∙ ap (λ (x : List Transition). length (distinctOf x)) same, k)
+    go true i true j true k e = let z : _≡_ {A = ℕ} 0 1 = cc in absurd (omega arith)
+    go true i false j h k e = let z : _≡_ {A = ℕ} 0 1 = cc in absurd (omega arith)
+    go false i g j h k e = let z : _≡_ {A = ℕ} 0 1 = cc in absurd (omega arith)
+
 -- what is not refused was asked for as document 01 says
 pub rows-asked : (l : Lent) (targets conts : List ℕ) (y : Parsed) {ts : List Transition} → withRows l targets conts y ≡ parsed ts →
     (y ≡ parsed ts) × (length targets ≡ length (distinctOf ts)) × (length conts ≡ length (distinctOf ts)) × (tooShort l ≡ false)
 rows-asked l targets conts y e = judged-back (length targets) (length conts) (tooShort l) y (judged-is l targets conts y ∙ e)
+
+record Parts (s n d : ℕ) (c : ℕ) (ns ms ds ps : List ℕ) (x : Parsed) : Type 0 where
+  ts : List Transition
+  is : x ≡ parsed ts
+  count : c ≡ length (starts (cutsOf ts))
+  low-high : ns ≡ padded s (segments (cutsOf ts))
+  each : ms ≡ padded n (flat (matrix ts))
+  once : ds ≡ padded d (flat (distinctOf ts))
+  places : ps ≡ padded 2048 (placesOf ts)
+
+parts : (s n d : ℕ) (x : Parsed) {c m k : ℕ} {ns ms ds ps : List ℕ} → Placed (place.Found c m k) s ns n ms d ds 2048 ps x → Parts s n d c ns ms ds ps x
+unfolding foundIn segmentsIn masksIn placedIn
+parts s n d (parsed ts) {c} h =
+    let says = h .says in
+    let a : c ≡ length (starts (cutsOf ts)) = cc in
+    record { ts = ts; is = refl; count = a; low-high = h .low-high; each = h .each; once = h .once; places = h .leaves }
+parts s n d (refused k p) h = let says = h .says in let z : _≡_ {A = ℕ} 0 1 = cc in absurd (omega arith)
+
+none : (l : Lent) (targets conts : List ℕ) (x : Parsed) (r : Refusal) {p : ℕ} {ns ms ds ps ai ws es : List ℕ} → Placed (place.Refused r) (l .segments) ns (l .masks) ms (l .distinct) ds p ps x →
+    ai ≡ zeros (l .ascii) → ws ≡ zeros (l .wide) → es ≡ zeros (l .escape) → Builds (Refused r) l ns ms ds ai ws es targets conts x
+unfolding foundIn counted asciiIn wideIn escapeIn
+none l targets conts (parsed ts) r h a b c = let says = h .says in let f : _≡_ {A = ℕ} 0 1 = cc in absurd (omega arith)
+none l targets conts (refused k p) r h a b c = record { says = h .says; low-high = h .low-high; each = h .each; once = h .once; narrow = a; broad = b; escapes = c }
 
 zeros-length : (n : ℕ) {l : List ℕ} → l ≡ zeros n → length l ≡ n
 zeros-length n e = ap length e ∙ length-replicate n 0
@@ -280,8 +251,7 @@ stands n {xs} {ys} e o s h = e ∙ ap (lay 0 xs) o ∙ lay-zeros n xs h ∙ ap (
 
 module _ (w targets conts sg mk ds ai ws es : List ℕ) {short : Bool} {ai₁ ws₁ es₁ : List ℕ}
     (z : (short ≡ (ltb (length ai) 128 || ltb (length ws) 6144 || ltb (length es) 6144)) × (ai₁ ≡ zeros (length ai)) × (ws₁ ≡ zeros (length ws)) × (es₁ ≡ zeros (length es)))
-    {got : Places} {sg₁ mk₁ ds₁ pl ps : List ℕ}
-    (h : Judged got (length sg) sg₁ mk mk₁ ds ds₁ pl ps (judged (length targets) (length conts) short (parseDistinct (length sg) (length mk) (length ds) w))) where
+    {got : Places} {sg₁ mk₁ ds₁ ps : List ℕ} (h : Placed got (length sg) sg₁ (length mk) mk₁ (length ds) ds₁ 2048 ps (parsePlaces (length sg) (length mk) (length ds) 2048 w)) where
   abbrev l : Lent
   l = lent sg mk ds ai ws es
 
@@ -294,137 +264,155 @@ module _ (w targets conts sg mk ds ai ws es : List ℕ) {short : Bool} {ai₁ ws
   x-is : judged (length targets) (length conts) short y ≡ x
   x-is = ap (λ (b : Bool). judged (length targets) (length conts) b y) (z .0) ∙ judged-is l targets conts y
 
-  at-rows : Judged got (length sg) sg₁ mk mk₁ ds ds₁ pl ps x
-  at-rows = subst (Judged got (length sg) sg₁ mk mk₁ ds ds₁ pl ps) x-is h
+  placed : {other : Places} → got ≡ other → Placed other (length sg) sg₁ (length mk) mk₁ (length ds) ds₁ 2048 ps y
+  placed i =
+      subst (λ (o : Places). Placed o (length sg) sg₁ (length mk) mk₁ (length ds) ds₁ 2048 ps y) i
+      (subst (Placed got (length sg) sg₁ (length mk) mk₁ (length ds) ds₁ 2048 ps) (roomy-places (length sg) (length mk) (length ds) w) h)
 
   pub build-refused : {r : Refusal} → got ≡ place.Refused r →
       Builds (Refused r) (lent sg mk ds ai ws es) sg₁ mk₁ ds₁ ai₁ ws₁ es₁ targets conts (parseRows (lent sg mk ds ai ws es) w targets conts)
-  unfolding counted asciiIn wideIn escapeIn
   build-refused {r} i =
-      let n : x ≡ refused (r .number) (r .place) = found-none x (ap told (sym i) ∙ at-rows .says) in
-      record {
-        says = ap (counted targets conts) (sym n);
-        low-high = at-rows .low-high;
-        each = at-rows .each;
-        once = at-rows .once;
-        narrow = z .1 ∙ ap (asciiIn (length ai) targets) (sym n);
-        broad = z .2 ∙ ap (wideIn (length ws) targets) (sym n);
-        escapes = z .3 ∙ ap (escapeIn (length es) targets conts) (sym n);
-      }
+      none l targets conts x r
+      (subst (Placed (place.Refused r) (length sg) sg₁ (length mk) mk₁ (length ds) ds₁ 2048 ps) x-is (judge-refused (length targets) (length conts) short y (placed i)))
+      (z .1) (z .2) (z .3)
 
-  module _ {c m k : ℕ} (i : got ≡ place.Found c m k) (long-places : length pl ≡ 2048) where
-    of : (ts : List Transition) × (x ≡ parsed ts) × (c ≡ length (starts (cutsOf ts)))
-    of = found-list x (ap told (sym i) ∙ at-rows .says)
+  module _ {c m k : ℕ} (i : got ≡ place.Found c m k) {o : Bool} (b : o ≡ differs m (length targets) (length conts)) {number : ℕ} (n : number ≡ refusalOf o short) where
+    number-is : number ≡ refusalOf (differs m (length targets) (length conts)) short
+    number-is = n ∙ ap (λ (x : Bool). refusalOf x short) b
 
-    abbrev ts : List Transition
-    ts = of .0
-
-    count : c ≡ length (starts (cutsOf ts))
-    count = of .2
-
-    low-high : sg₁ ≡ padded (length sg) (segments (cutsOf ts))
-    unfolding segmentsIn
-    low-high = at-rows .low-high ∙ ap (segmentsIn (length sg)) (of .1)
-
-    over-places : ps ≡ over (placesOf ts) pl
-    over-places = at-rows .where-each ts (of .1)
-
-    -- nothing was refused
-    well : (parseDistinct (length sg) (length mk) (length ds) w ≡ parsed ts) × (length targets ≡ length (distinctOf ts)) × (length conts ≡ length (distinctOf ts)) × (tooShort l ≡ false)
-    well = rows-asked l targets conts y (of .1)
-
-    roomy : (128 ≤ length ai) × (6144 ≤ length ws) × (6144 ≤ length es)
-    roomy = long (length ai) (length ws) (length es) (well .3)
-
-    build-few : c ≤ 2047
-    unfolding accepted
-    build-few =
-        let good : accepted (parse w) ≡ ts = ap accepted (accepted-list (length sg) (length mk) (length ds) w ts (well .0)) in
-        omega (arith, count, rw good at (few-segments w))
-
-    few-places : length (placesOf ts) ≤ length pl
-    few-places = omega (arith, length-places (distinctOf ts) (matrix ts), length-masks ts (starts (cutsOf ts)), count, build-few, long-places)
-
-    places : ps ≡ placesOf ts ++ drop (length (placesOf ts)) pl
-    places = over-places ∙ over-append (placesOf ts) pl few-places
-
-    sorted : (e : Bool) (vs : List ℕ) → Sorted 0 (aimed e targets vs sg₁ ps c 0)
-    unfolding padded
-    sorted e vs =
-        subst (λ (n : ℕ). Sorted 0 (aimed e targets vs sg₁ ps n 0)) (sym (count))
-        (sorted-over e ts targets vs sg₁ ps (cutsOf ts) (zeros (length sg - length (segments (cutsOf ts)))) low-high (built.asc-cuts ts))
-
-    pub build-fills : Standing targets sg₁ ps c ai₁ ws₁ es₁
-    unfolding padded
-    build-fills =
-        record {
-          points = omega (arith, count, length-starts (cutsOf ts), ap length low-high, length-append (segments (cutsOf ts)) (zeros (length sg - length (segments (cutsOf ts)))));
-          each = omega (arith, build-few, long-places, ap length over-places, over-length (placesOf ts) pl);
-          few = build-few;
-          narrow = omega (arith, roomy .0, zeros-length (length ai) (z .1));
-          broad = omega (arith, roomy .1, zeros-length (length ws) (z .2));
-          escapes = omega (arith, roomy .2, zeros-length (length es) (z .3));
-          order = sorted false [];
-        }
-
-    few-masks : length (distinctOf ts) ≤ 2047
-    few-masks = omega (arith, few-distinct [] (matrix ts), length-masks ts (starts (cutsOf ts)), count, build-few)
-
-    some-targets : length targets ≤ NONE
-    some-targets = omega (arith, well .1, few-masks)
-
-    some-conts : length conts ≤ NONE
-    some-conts = omega (arith, well .2, few-masks)
-
-    target-is : (vs : List ℕ) (c : ℕ) → goalOf false targets vs (placeOf (distinctOf ts) (maskOf ts c)) ≡ targetOf ts targets (maskOf ts c)
-    target-is vs c = given-place DEAD (distinctOf ts) targets (maskOf ts c) some-targets
-
-    cont-is : (c : ℕ) → goalOf true targets conts (placeOf (distinctOf ts) (maskOf ts c)) ≡ contOf ts targets conts (maskOf ts c)
-    cont-is c =
-        ap₂ (λ (t v : ℕ). pick (eqb t DEAD) NONE v) (target-is [] c) (given-place NONE (distinctOf ts) conts (maskOf ts c) some-conts)
-
-    of-targets : (vs : List ℕ) → living DEAD (aimed false targets vs sg₁ ps c 0) ≡ targetRow ts targets
-    unfolding targetRow padded
-    of-targets vs =
-        ap (λ (n : ℕ). living DEAD (aimed false targets vs sg₁ ps n 0)) (count)
-        ∙ row-over false ts targets vs sg₁ ps (λ p. targetOf ts targets (maskOf ts p)) (target-is vs) (cutsOf ts) (zeros (length sg - length (segments (cutsOf ts))))
-        (drop (length (placesOf ts)) pl) low-high places
-
-    of-conts : living NONE (aimed true targets conts sg₁ ps c 0) ≡ contRow ts targets conts
-    unfolding contRow padded
-    of-conts =
-        ap (λ (n : ℕ). living NONE (aimed true targets conts sg₁ ps n 0)) (count)
-        ∙ row-over true ts targets conts sg₁ ps (λ p. contOf ts targets conts (maskOf ts p)) cont-is (cutsOf ts) (zeros (length sg - length (segments (cutsOf ts))))
-        (drop (length (placesOf ts)) pl) low-high places
-
-    asciis : asciiPart (aimed false targets [] sg₁ ps c 0) ≡ asciiOf ts targets
-    asciis = ascii-is (aimed false targets [] sg₁ ps c 0) (targetRow ts targets) (sorted false []) (of-targets [])
-
-    wides : joined false targets conts sg₁ ps c ≡ wideOf ts targets
-    wides = wide-is targets conts sg₁ ps c (targetRow ts targets) (built.sorted-targets ts targets) (sorted false conts) (of-targets conts)
-
-    escapes : joined true targets conts sg₁ ps c ≡ escapeOf ts targets conts
-    escapes = escape-is targets conts sg₁ ps c (contRow ts targets conts) (sorted true conts) of-conts
-
-    pub build-done : {r : Rows} {ai₂ ws₂ es₂ : List ℕ} →
-        Filled r (aimed false targets [] sg₁ ps c 0) (joined false targets conts sg₁ ps c) (joined true targets conts sg₁ ps c) ai₁ ai₂ ws₁ ws₂ es₁ es₂ →
-        Builds r (lent sg mk ds ai ws es) sg₁ mk₁ ds₁ ai₂ ws₂ es₂ targets conts (parseRows (lent sg mk ds ai ws es) w targets conts)
-    unfolding segmentsIn masksLeft counted asciiIn wideIn escapeIn
-    build-done f =
-        let fit-a : length (asciiPart (aimed false targets [] sg₁ ps c 0)) ≤ length ai =
-        omega (arith, length-values (goalAt DEAD (aimed false targets [] sg₁ ps c 0)) 0 128, roomy .0) in
-        let fit-w : length (numbers (joined false targets conts sg₁ ps c)) ≤ length ws = omega (arith, few-joined false targets conts sg₁ ps c, build-few, roomy .1) in
-        let fit-e : length (numbers (joined true targets conts sg₁ ps c)) ≤ length es = omega (arith, few-joined true targets conts sg₁ ps c, build-few, roomy .2) in
-        rw (of .1)
+    pub build-none : {sg₂ mk₂ ds₂ : List ℕ} → (number ≡ 0 → ⊥) → (sg₂ ≡ zeros (length sg₁)) × (mk₂ ≡ zeros (length mk₁)) × (ds₂ ≡ zeros (length ds₁)) →
+        length sg₁ ≡ length sg → length mk₁ ≡ length mk → length ds₁ ≡ length ds →
+        Builds (Refused (record { number = number; place = 0 })) (lent sg mk ds ai ws es) sg₂ mk₂ ds₂ ai₁ ws₁ es₁ targets conts (parseRows (lent sg mk ds ai ws es) w targets conts)
+    unfolding segmentsIn masksIn counted asciiIn wideIn escapeIn
+    build-none q v a e d =
+        rw (sym x-is ∙ judge-none (length targets) (length conts) short y (placed i) number-is q)
         (record {
-          says = f .says ∙ ap₂ {C = Said} (λ x y. ok (length (numbers x) ∷ length (numbers y) ∷ [])) wides escapes;
-          low-high = low-high;
-          each = at-rows .each ∙ ap (masksLeft matrix mk) (of .1);
-          once = at-rows .once ∙ ap (masksLeft distinctOf ds) (of .1);
-          narrow = stands (length ai) (f .narrow) (z .1) asciis fit-a;
-          broad = stands (length ws) (f .broad) (z .2) (ap numbers wides) fit-w;
-          escapes = stands (length es) (f .escapes) (z .3) (ap numbers escapes) fit-e;
+          says = refl;
+          low-high = v .0 ∙ ap zeros a;
+          each = v .1 ∙ ap zeros e;
+          once = v .2 ∙ ap zeros d;
+          narrow = z .1;
+          broad = z .2;
+          escapes = z .3;
         })
+
+    module _ (q : number ≡ 0) where
+      p : Parts (length sg) (length mk) (length ds) c sg₁ mk₁ ds₁ ps x
+      p =
+          parts (length sg) (length mk) (length ds) x
+          (subst (Placed (place.Found c m k) (length sg) sg₁ (length mk) mk₁ (length ds) ds₁ 2048 ps) x-is
+          (judge-found (length targets) (length conts) short y (placed i) (sym number-is ∙ q)))
+
+      abbrev ts : List Transition
+      ts = p .ts
+
+      -- nothing was refused
+      well : (parseDistinct (length sg) (length mk) (length ds) w ≡ parsed ts) × (length targets ≡ length (distinctOf ts)) × (length conts ≡ length (distinctOf ts)) × (tooShort l ≡ false)
+      well = rows-asked l targets conts y (p .is)
+
+      roomy : (128 ≤ length ai) × (6144 ≤ length ws) × (6144 ≤ length es)
+      roomy = long (length ai) (length ws) (length es) (well .3)
+
+      build-few : c ≤ 2047
+      unfolding accepted
+      build-few =
+          let good : accepted (parse w) ≡ ts = ap accepted (accepted-list (length sg) (length mk) (length ds) w ts (well .0)) in
+          omega (arith, p .count, rw good at (few-segments w))
+
+      build-points : (2 * c ≤ length sg₁) × (c ≤ length ps)
+      unfolding padded
+      build-points = (
+        omega (arith, p .count, length-starts (cutsOf ts), ap length (p .low-high), length-append (segments (cutsOf ts)) (zeros (length sg - length (segments (cutsOf ts))))),
+        omega (
+          arith,
+          p .count,
+          ap length (p .places),
+          length-append (placesOf ts) (zeros (2048 - length (placesOf ts))),
+          length-places (distinctOf ts) (matrix ts),
+          length-masks ts (starts (cutsOf ts)),
+        ),
+      )
+
+      sorted : (e : Bool) (vs : List ℕ) → Sorted 0 (aimed e targets vs sg₁ ps c 0)
+      unfolding padded
+      sorted e vs =
+          subst (λ (n : ℕ). Sorted 0 (aimed e targets vs sg₁ ps n 0)) (sym (p .count))
+          (sorted-over e ts targets vs sg₁ ps (cutsOf ts) (zeros (length sg - length (segments (cutsOf ts)))) (p .low-high) (built.asc-cuts ts))
+
+      pub build-fills : (((2 * c ≤ length sg₁) × (c ≤ length ps)) × ((c ≤ 2047) × (((128 ≤ length ai₁) × (6144 ≤ length ws₁) × (6144 ≤ length es₁)) × Sorted 0 (aimed false targets [] sg₁ ps c 0))))
+      build-fills = (
+        build-points,
+        (
+          build-few,
+          (
+            (
+              omega (arith, roomy .0, zeros-length (length ai) (z .1)),
+              omega (arith, roomy .1, zeros-length (length ws) (z .2)),
+              omega (arith, roomy .2, zeros-length (length es) (z .3)),
+            ),
+            sorted false [],
+          ),
+        ),
+      )
+
+      few-masks : length (distinctOf ts) ≤ 2047
+      few-masks = omega (arith, few-distinct [] (matrix ts), length-masks ts (starts (cutsOf ts)), p .count, build-few)
+
+      some-targets : length targets ≤ NONE
+      some-targets = omega (arith, well .1, few-masks)
+
+      some-conts : length conts ≤ NONE
+      some-conts = omega (arith, well .2, few-masks)
+
+      target-is : (vs : List ℕ) (c : ℕ) → goalOf false targets vs (placeOf (distinctOf ts) (maskOf ts c)) ≡ targetOf ts targets (maskOf ts c)
+      target-is vs c = given-place DEAD (distinctOf ts) targets (maskOf ts c) some-targets
+
+      cont-is : (c : ℕ) → goalOf true targets conts (placeOf (distinctOf ts) (maskOf ts c)) ≡ contOf ts targets conts (maskOf ts c)
+      cont-is c =
+          ap₂ (λ (t v : ℕ). pick (eqb t DEAD) NONE v) (target-is [] c) (given-place NONE (distinctOf ts) conts (maskOf ts c) some-conts)
+
+      of-targets : (vs : List ℕ) → living DEAD (aimed false targets vs sg₁ ps c 0) ≡ targetRow ts targets
+      unfolding targetRow padded
+      of-targets vs =
+          ap (λ (n : ℕ). living DEAD (aimed false targets vs sg₁ ps n 0)) (p .count)
+          ∙ row-over false ts targets vs sg₁ ps (λ p. targetOf ts targets (maskOf ts p)) (target-is vs) (cutsOf ts) (zeros (length sg - length (segments (cutsOf ts))))
+          (zeros (2048 - length (placesOf ts))) (p .low-high) (p .places)
+
+      of-conts : living NONE (aimed true targets conts sg₁ ps c 0) ≡ contRow ts targets conts
+      unfolding contRow padded
+      of-conts =
+          ap (λ (n : ℕ). living NONE (aimed true targets conts sg₁ ps n 0)) (p .count)
+          ∙ row-over true ts targets conts sg₁ ps (λ p. contOf ts targets conts (maskOf ts p)) cont-is (cutsOf ts) (zeros (length sg - length (segments (cutsOf ts))))
+          (zeros (2048 - length (placesOf ts))) (p .low-high) (p .places)
+
+      asciis : asciiPart (aimed false targets [] sg₁ ps c 0) ≡ asciiOf ts targets
+      asciis = ascii-is (aimed false targets [] sg₁ ps c 0) (targetRow ts targets) (sorted false []) (of-targets [])
+
+      wides : joined false targets conts sg₁ ps c ≡ wideOf ts targets
+      wides = wide-is targets conts sg₁ ps c (targetRow ts targets) (built.sorted-targets ts targets) (sorted false conts) (of-targets conts)
+
+      escapes : joined true targets conts sg₁ ps c ≡ escapeOf ts targets conts
+      escapes = escape-is targets conts sg₁ ps c (contRow ts targets conts) (sorted true conts) of-conts
+
+      pub build-done : {r : Rows} {ai₂ ws₂ es₂ : List ℕ} →
+          Filled r (aimed false targets [] sg₁ ps c 0) (joined false targets conts sg₁ ps c) (joined true targets conts sg₁ ps c) ai₁ ai₂ ws₁ ws₂ es₁ es₂ →
+          Builds r (lent sg mk ds ai ws es) sg₁ mk₁ ds₁ ai₂ ws₂ es₂ targets conts (parseRows (lent sg mk ds ai ws es) w targets conts)
+      unfolding segmentsIn masksIn counted asciiIn wideIn escapeIn
+      build-done f =
+          let fit-a : length (asciiPart (aimed false targets [] sg₁ ps c 0)) ≤ length ai =
+          omega (arith, length-values (goalAt DEAD (aimed false targets [] sg₁ ps c 0)) 0 128, roomy .0) in
+          let fit-w : length (numbers (joined false targets conts sg₁ ps c)) ≤ length ws = omega (arith, few-joined false targets conts sg₁ ps c, build-few, roomy .1) in
+          let fit-e : length (numbers (joined true targets conts sg₁ ps c)) ≤ length es = omega (arith, few-joined true targets conts sg₁ ps c, build-few, roomy .2) in
+          rw (p .is)
+          (record {
+            says = f .says ∙ ap₂ {C = Said} (λ x y. ok (length (numbers x) ∷ length (numbers y) ∷ [])) wides escapes;
+            low-high = p .low-high;
+            each = p .each;
+            once = p .once;
+            narrow = stands (length ai) (f .narrow) (z .1) asciis fit-a;
+            broad = stands (length ws) (f .broad) (z .2) (ap numbers wides) fit-w;
+            escapes = stands (length es) (f .escapes) (z .3) (ap numbers escapes) fit-e;
+          })
 
 -- `said` takes no two answers to one: what it says gives the answer back
 

@@ -1,6 +1,6 @@
 -- Rows as the loops of row building meet them, segment by segment: from the segments as numbers, the place of each segment's mask among the distinct masks, and
 -- what was given each place. One definition for both kinds of row, e says which: an escape row, or one of targets. Assumes nothing.
-use Prim.Native.Nat.{ℕ, zero, suc, _+_, _*_, _-_, _≤_, min, max}
+use Prim.Native.Nat.{ℕ, zero, suc, _+_, _*_, _-_, min, max}
 use mathlib.Core.Path.{_≡_}
 use mathlib.Core.Bool.{Bool, true, false, _&&_, _||_}
 use mathlib.Core.List.{List, [], _∷_, _++_}
@@ -10,17 +10,10 @@ use Rattle.refusal.specs.Said.{ok, ROOM, TARGETS}
 use Rattle.refusal.specs.Lists.{pick}
 use Rattle.refusal.specs.Fixed.{NONE}
 use Rattle.table.specs.Table.{Range}
-use Rattle.written.specs.Over.{over, lay, Put}
-use Rattle.transitions.specs.Transition.{Transition}
-use Rattle.transitions.specs.Read.{Parsed, parsed, refused}
-use Rattle.segments.specs.Answer.{segmentsIn}
-use Rattle.masks.specs.declared.Places.{Places}
-use Rattle.masks.specs.declared.Places.the-variants.{Found, Refused}
-use Rattle.masks.specs.Masks.{matrix, distinctOf, placesOf}
-use Rattle.masks.specs.Answer.{told, foundIn}
-use Rattle.row_laws.specs.Row.{Row, DEAD, Sorted, numbers, joinTo, partFrom, asciiPart}
+use Rattle.written.specs.Over.{lay, Put}
+use Rattle.row_laws.specs.Row.{Row, DEAD, numbers, joinTo, partFrom, asciiPart}
 use Rattle.rows.specs.declared.Rows.{Rows}
-use Rattle.rows.specs.Answer.{said, masksLeft}
+use Rattle.rows.specs.Answer.{said}
 
 abbrev pub rangeOf : ℕ → ℕ → ℕ → Range
 rangeOf low high goal = record { low = low; high = high; goal = goal }
@@ -70,16 +63,6 @@ pub record Split (ts ws : Row) (ascii ascii′ wide : List ℕ) (n : ℕ) (wide�
   pub narrow : ascii′ ≡ lay 0 (asciiPart ts) ascii
   pub broad : Put (numbers ws) 0 wide n wide′
 
--- `count` segments stand with a place each, in order, and the buffers for rows are long enough
-pub record Standing (targets segments places : List ℕ) (count : ℕ) (ascii wide escape : List ℕ) : Type 0 where
-  pub points : 2 * count ≤ length segments
-  pub each : count ≤ length places
-  pub few : count ≤ 2047
-  pub narrow : 128 ≤ length ascii
-  pub broad : 6144 ≤ length wide
-  pub escapes : 6144 ≤ length escape
-  pub order : Sorted 0 (aimed false targets [] segments places count 0)
-
 -- .. and the row es in front of a third
 pub record Filled (r : Rows) (ts ws es : Row) (ascii ascii′ wide wide′ escape escape′ : List ℕ) : Type 0 where
   pub says : said r ≡ ok (length (numbers ws) ∷ length (numbers es) ∷ [])
@@ -94,22 +77,3 @@ differs d targets conts = pick (eqb targets d && eqb conts d) false true
 -- "TARGETS, ROOM for these": the refusal's number, or 0
 abbrev pub refusalOf : Bool → Bool → ℕ
 refusalOf other short = pick other TARGETS (pick short ROOM 0)
-
--- .. for a list whose distinct masks are known; t and c are how many targets and continuations there are
-unfoldable pub judged : ℕ → ℕ → Bool → Parsed → Parsed
-judged t c short (parsed ts) = pick (eqb t (length (distinctOf ts)) && eqb c (length (distinctOf ts))) (pick short (refused ROOM 0) (parsed ts)) (refused TARGETS 0)
-judged t c short (refused k p) = refused k p
-
--- .. for what was found of it
-unfoldable pub allowed : ℕ → ℕ → Bool → Places → Places
-allowed t c short (Found segments masks words) =
-    pick (eqb (refusalOf (differs masks t c) short) 0) (Found segments masks words) (Refused (record { number = refusalOf (differs masks t c) short; place = 0 }))
-allowed t c short (Refused r) = Refused r
-
--- the segments, masks and places of a list that is not refused stand; of one that is, the buffers for segments and masks hold zeros
-pub record Judged (r : Places) (s : ℕ) (segments old masks olds distinct oldest places : List ℕ) (x : Parsed) : Type 0 where
-  pub says : told r ≡ foundIn x
-  pub low-high : segments ≡ segmentsIn s x
-  pub each : masks ≡ masksLeft matrix old x
-  pub once : distinct ≡ masksLeft distinctOf olds x
-  pub where-each : (ts : List Transition) → x ≡ parsed ts → places ≡ over (placesOf ts) oldest

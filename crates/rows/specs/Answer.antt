@@ -8,12 +8,12 @@ use lib.ListN.{length}
 use lib.Dec.{ltb, eqb}
 use Rattle.refusal.specs.Said.{Said, ok, no, ROOM, TARGETS}
 use Rattle.refusal.specs.Lists.{pick}
-use Rattle.written.specs.Over.{over, zeros, padded}
+use Rattle.written.specs.Over.{zeros, padded}
 use Rattle.transitions.specs.Transition.{Transition}
 use Rattle.transitions.specs.Read.{Parsed, parsed, refused}
 use Rattle.segments.specs.Answer.{segmentsIn}
-use Rattle.masks.specs.Masks.{matrix, distinctOf, flat}
-use Rattle.masks.specs.Answer.{parseDistinct}
+use Rattle.masks.specs.Masks.{matrix, distinctOf}
+use Rattle.masks.specs.Answer.{parseDistinct, masksIn}
 use Rattle.row_laws.specs.Row.{Row, numbers}
 use Rattle.row_laws.specs.Build.{asciiOf, wideOf, escapeOf}
 use Rattle.rows.specs.declared.Rows.{Rows}
@@ -24,18 +24,18 @@ abbrev pub said : Rows → Said
 said (Built wide escape) = ok (wide ∷ escape ∷ [])
 said (Refused r) = no (r .number) (r .place)
 
--- how many numbers each lent buffer has; of the two for masks, which the call works in, what they hold
+-- how many numbers each lent buffer has
 pub record Lent : Type 0 where
   pub segments : ℕ
-  pub masks : List ℕ
-  pub distinct : List ℕ
+  pub masks : ℕ
+  pub distinct : ℕ
   pub ascii : ℕ
   pub wide : ℕ
   pub escape : ℕ
 
 abbrev pub lent : List ℕ → List ℕ → List ℕ → List ℕ → List ℕ → List ℕ → Lent
 lent segments masks distinct ascii wide escape =
-    record { segments = length segments; masks = masks; distinct = distinct; ascii = length ascii; wide = length wide; escape = length escape }
+    record { segments = length segments; masks = length masks; distinct = length distinct; ascii = length ascii; wide = length wide; escape = length escape }
 
 -- "targets or continuations differ in number from distinct masks" is where this fails
 abbrev pub asMany : List Transition → List ℕ → List ℕ → Bool
@@ -53,7 +53,7 @@ withRows l targets conts (refused k p) = refused k p
 
 -- "A row call: ROOM for the buffers above, the records, TARGETS, ROOM for these."
 abbrev pub parseRows : Lent → List ℕ → List ℕ → List ℕ → Parsed
-parseRows l w targets conts = withRows l targets conts (parseDistinct (l .segments) (length (l .masks)) (length (l .distinct)) w)
+parseRows l w targets conts = withRows l targets conts (parseDistinct (l .segments) (l .masks) (l .distinct) w)
 
 -- the numbers of both rows, or the refusal
 unfoldable pub counted : List ℕ → List ℕ → Parsed → Said
@@ -74,17 +74,12 @@ unfoldable pub escapeIn : ℕ → List ℕ → List ℕ → Parsed → List ℕ
 escapeIn n targets conts (parsed ts) = padded n (numbers (escapeOf ts targets conts))
 escapeIn n targets conts (refused k p) = zeros n
 
--- the masks are no part of the rows: they stand at the front of a buffer that is lent to work in, and behind them it is as it was. Refused: zeros
-unfoldable pub masksLeft : (List Transition → List (List ℕ)) → List ℕ → Parsed → List ℕ
-masksLeft f old (parsed ts) = over (flat (f ts)) old
-masksLeft f old (refused k p) = zeros (length old)
-
 -- the answer says it, and the six buffers hold it
 pub record Builds (r : Rows) (l : Lent) (segments masks distinct ascii wide escape : List ℕ) (targets conts : List ℕ) (x : Parsed) : Type 0 where
   pub says : said r ≡ counted targets conts x
   pub low-high : segments ≡ segmentsIn (l .segments) x
-  pub each : masks ≡ masksLeft matrix (l .masks) x
-  pub once : distinct ≡ masksLeft distinctOf (l .distinct) x
+  pub each : masks ≡ masksIn matrix (l .masks) x
+  pub once : distinct ≡ masksIn distinctOf (l .distinct) x
   pub narrow : ascii ≡ asciiIn (l .ascii) targets x
   pub broad : wide ≡ wideIn (l .wide) targets x
   pub escapes : escape ≡ escapeIn (l .escape) targets conts x

@@ -9,9 +9,8 @@ ghost use lib.ListN.{length, getD, replicate};
 ghost use Rattle.refusal.specs.Lists.{pick};
 ghost use Rattle.written.specs.Over.{Put, zeros};
 ghost use Rattle.row_laws.specs.Row.{Sorted, numbers, asciiPart};
-ghost use Rattle.masks.specs.Answer.{parseDistinct};
 ghost use Rattle.rows.specs.Answer.{lent, parseRows, Builds};
-ghost use Rattle.rows.specs.Aimed.{goalOf, noGoal, firstOf, aimed, seenWords, joined, targetsOf, Split, Standing, Filled, differs, refusalOf, judged, allowed, Judged};
+ghost use Rattle.rows.specs.Aimed.{goalOf, noGoal, firstOf, aimed, seenWords, joined, targetsOf, Split, Filled, differs, refusalOf};
 use masks::Places;
 use refusal::DEAD_STATE;
 use refusal::NONE;
@@ -315,7 +314,10 @@ fn fill_rows(
     wide: &mut [u32],
     escape: &mut [u32],
 ) -> Rows
-    requires { ⌜ Standing (now targets) (now segments) (now places) count (now ascii) (now wide) (now escape) ⌝ }
+    requires within { ⌜ (2 * count ≤ length (now segments)) × (count ≤ length (now places)) ⌝ }
+    requires few { ⌜ count ≤ 2047 ⌝ }
+    requires room { ⌜ (128 ≤ length (now ascii)) × (6144 ≤ length (now wide)) × (6144 ≤ length (now escape)) ⌝ }
+    requires order { ⌜ Sorted 0 (aimed false (now targets) [] (now segments) (now places) count 0) ⌝ }
     ensures { λ r. ⌜ Filled r (aimed false (now (targets .entry)) [] (now (segments .entry)) (now (places .entry)) count 0) (joined false (now (targets .entry)) (now (continuations .entry)) (now (segments .entry)) (now (places .entry)) count) (joined true (now (targets .entry)) (now (continuations .entry)) (now (segments .entry)) (now (places .entry)) count) (now (ascii .entry)) (now (ascii .exit)) (now (wide .entry)) (now (wide .exit)) (now (escape .entry)) (now (escape .exit)) ⌝ }
 {
     let n = split_rows(segments, places, count, targets, continuations, ascii, wide);
@@ -390,67 +392,9 @@ fn clear_masks(segments: &mut [u32], masks: &mut [u64], distinct: &mut [u64])
     written::clear_words(distinct);
 }
 
-// What was found of a list, unless something stands in the way of its rows.
-fn allow(found: Places, targets: usize, continuations: usize, short: bool) -> Places
-    ensures { λ r. ⌜ r ≡ allowed targets continuations short found ⌝ }
-{
-    match found {
-        Places::Found {
-            segments,
-            masks,
-            words,
-        } => {
-            let number = refusal_of(differ(masks, targets, continuations), short);
-            if number != 0 {
-                return Places::Refused(Refusal { number, place: 0 });
-            }
-            Places::Found {
-                segments,
-                masks,
-                words,
-            }
-        }
-        Places::Refused(r) => Places::Refused(r),
-    }
-}
-
-// The segments of a list, their masks, and the places of these, unless something stands in the way of its rows: then the buffers for segments and masks are
-// cleared.
-fn find_places(
-    list: &[u8],
-    targets: usize,
-    continuations: usize,
-    short: bool,
-    segments: &mut [u32],
-    masks: &mut [u64],
-    distinct: &mut [u64],
-    places: &mut [u32],
-) -> Places
-    requires { ⌜ 2048 ≤ length (now places) ⌝ }
-    ensures { λ r. ⌜ Judged r (length (now (segments .entry))) (now (segments .exit)) (now (masks .entry)) (now (masks .exit)) (now (distinct .entry)) (now (distinct .exit)) (now (places .entry)) (now (places .exit)) (judged targets continuations short (parseDistinct (length (now (segments .entry))) (length (now (masks .entry))) (length (now (distinct .entry))) (now (list .entry)))) ⌝ }
-{
-    let found = distinct_masks::place_masks(list, segments, masks, distinct, places);
-    match allow(found, targets, continuations, short) {
-        Places::Found {
-            segments: count,
-            masks: d,
-            words,
-        } => Places::Found {
-            segments: count,
-            masks: d,
-            words,
-        },
-        Places::Refused(r) => {
-            clear_masks(segments, masks, distinct);
-            Places::Refused(r)
-        }
-    }
-}
-
 // The rows of a list of transitions, each distinct mask of which was given a target and a continuation: 128 ascii targets, the wide row and the escape row,
-// three numbers to a range. Refused: every number of the six buffers is 0. Accepted: behind the rows, and behind the segments, which are left too, there are
-// zeros. The two buffers for masks are lent to work in: the masks of the segments and the distinct ones stand at their fronts, and what lies behind is not
-// touched, since it would take longer to clear it than to build short rows.
+// three numbers to a range. The segments, their masks and the distinct ones are left too. Refused: every number of the six buffers is 0. Accepted: behind
+// the answer's numbers there are zeros.
 pub fn build_rows(
     list: &[u8],
     targets: &[u16],
@@ -466,30 +410,28 @@ pub fn build_rows(
 {
     let short = clear_rows(ascii, wide, escape);
     let mut places = [0u32; 2048];
-    match find_places(
-        list,
-        targets.len(),
-        continuations.len(),
-        short,
-        segments,
-        masks,
-        distinct,
-        &mut places,
-    ) {
+    match distinct_masks::place_masks(list, segments, masks, distinct, &mut places) {
         Places::Found {
             segments: count,
             masks: d,
             words,
-        } => fill_rows(
-            segments,
-            &places,
-            count,
-            targets,
-            continuations,
-            ascii,
-            wide,
-            escape,
-        ),
+        } => {
+            let number = refusal_of(differ(d, targets.len(), continuations.len()), short);
+            if number != 0 {
+                clear_masks(segments, masks, distinct);
+                return Rows::Refused(Refusal { number, place: 0 });
+            }
+            fill_rows(
+                segments,
+                &places,
+                count,
+                targets,
+                continuations,
+                ascii,
+                wide,
+                escape,
+            )
+        }
         Places::Refused(r) => Rows::Refused(r),
     }
 }

@@ -1,5 +1,5 @@
 -- The answer of row building in C: a number of 0 and how many numbers the rows have, or the refusal's number and place; and what is left in the six
--- buffers, which were lent as l. x is the list read, `targets` and `conts` are what its masks were given. Assumes nothing.
+-- buffers, of the lengths l. x is the list read, `targets` and `conts` are what its masks were given. Assumes nothing.
 use Prim.Native.Nat.{ℕ}
 use mathlib.Core.Path.{_≡_}
 use mathlib.Core.List.{List}
@@ -8,7 +8,8 @@ use Rattle.refusal.specs.Said.{Said, ok, no}
 use Rattle.transitions.specs.Read.{Parsed}
 use Rattle.segments.specs.Answer.{segmentsIn}
 use Rattle.masks.specs.Masks.{matrix, distinctOf}
-use Rattle.rows.specs.Answer.{Lent, counted, asciiIn, wideIn, escapeIn, masksLeft}
+use Rattle.masks.specs.Answer.{masksIn}
+use Rattle.rows.specs.Answer.{Lent, counted, asciiIn, wideIn, escapeIn}
 use Rattle.rows_c.specs.declared.CRows.{CRows}
 
 -- how many numbers the wide row and the escape row have
@@ -20,8 +21,8 @@ rowsInC (no n p) = record { number = n; place = p; wide = 0; escape = 0 }
 pub record BuildsInC (r : CRows) (l : Lent) (segments masks distinct ascii wide escape : List ℕ) (targets conts : List ℕ) (x : Parsed) : Type 0 where
   pub says : r ≡ rowsInC (counted targets conts x)
   pub low-high : segments ≡ segmentsIn (l .segments) x
-  pub each : masks ≡ masksLeft matrix (l .masks) x
-  pub once : distinct ≡ masksLeft distinctOf (l .distinct) x
+  pub each : masks ≡ masksIn matrix (l .masks) x
+  pub once : distinct ≡ masksIn distinctOf (l .distinct) x
   pub narrow : ascii ≡ asciiIn (l .ascii) targets x
   pub broad : wide ≡ wideIn (l .wide) targets x
   pub escapes : escape ≡ escapeIn (l .escape) targets conts x

@@ -535,7 +535,6 @@ mod tests {
         assert!(masks.iter().chain(&distinct).all(|&word| word == 0));
 
         let (mut ascii, mut wide, mut escape) = ([7; 128], [7; 6144], [7; 6144]);
-        (masks, distinct) = ([7; 8192], [7; 8192]);
         let lent = RowBuffers {
             segments: &mut numbers,
             masks: &mut masks,
@@ -546,7 +545,6 @@ mod tests {
         };
         let answer = build_rows(&list[..3], &[], &[], lent);
         assert_eq!((answer.number, answer.place, answer.wide, answer.escape), (11, 0, 0, 0));
-        assert!(masks.iter().chain(&distinct).all(|&word| word == 0));
         assert!(ascii.iter().all(|&target| target == 0));
         assert!(wide.iter().chain(&escape).all(|&number| number == 0));
 

@@ -12,8 +12,7 @@
 //!
 //! A call that writes asks for the room that the longest list can need before it reads a byte, and
 //! is refused with ROOM at 0 where a buffer is shorter. Refused, every number that is lent is 0;
-//! accepted, every one behind the answer's, but for the two buffers for masks that [`build_rows`] works
-//! in.
+//! accepted, every one behind the answer's.
 
 use crate::{Refusal, ffi};
 
@@ -58,10 +57,9 @@ pub struct Masked {
 pub struct RowBuffers<'a> {
     /// The segments, low and high each: [`SEGMENT_NUMBERS`].
     pub segments: &'a mut [u32],
-    /// The mask of each segment: [`MASK_WORDS`]. Behind the masks of an accepted list the words stay as
-    /// they were lent.
+    /// The mask of each segment: [`MASK_WORDS`].
     pub masks: &'a mut [u64],
-    /// The distinct masks: [`MASK_WORDS`]. Likewise.
+    /// The distinct masks: [`MASK_WORDS`].
     pub distinct: &'a mut [u64],
     /// The ascii row: [`ASCII_TARGETS`].
     pub ascii: &'a mut [u16],

@@ -7,8 +7,6 @@ pub distinct-masks-spec : {M : Type 1} → statement M
 distinct-masks-spec =
     tie.close
     (tie.spec
-    (λ c κs. search distincts)
-    (λ c κs. search distincts)
     (λ c. search distincts)
     (λ c κs. search distincts)
     (λ c. search distincts)

@@ -9,6 +9,10 @@ place-masks-spec =
     (tie.spec
     (λ c κs. search placing)
     (λ c κs. search placing)
+    (λ c κs. search placing)
+    (λ c. search placing)
+    (λ c. search placing)
+    (λ c. search placing)
     (λ c. search placing)
     (λ c. search placing)
     (λ c κs. search placing)

@@ -1,4 +1,4 @@
--- The masks are written over what stands there.
+-- The masks are written over zeros.
 use Rattle.masks.proofs.Answers.{filling}
 use Rattle.masks.proofs.fill_masks.Statement.{statement}
 use Rattle.masks.proofs.fill_masks.Tie as tie
@@ -8,7 +8,7 @@ fill-masks-spec =
     tie.close
     (tie.spec
     (λ c κs. search filling)
-    (λ c κs. (search filling, (search filling, search filling)))
+    (λ c κs. (search filling, (search filling, (search filling, search filling))))
     (λ c. search filling)
     (λ c. search filling)
     (λ c. search filling))

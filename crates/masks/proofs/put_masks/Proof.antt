@@ -7,7 +7,6 @@ pub put-masks-spec : {M : Type 1} → statement M
 put-masks-spec =
     tie.close
     (tie.spec
-    (λ c κs. search choosing)
     (λ c κs. (search choosing, (search choosing, (search choosing, (search choosing, search choosing)))))
     (λ c. search choosing)
     (λ c. search choosing)

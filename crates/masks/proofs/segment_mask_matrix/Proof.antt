@@ -1,5 +1,5 @@
--- The buffer for masks is cleared first.
-use Rattle.masks.proofs.Answers.{clearing}
+-- The buffers are cleared, and filled where the list is accepted.
+use Rattle.masks.proofs.Answers.{answering}
 use Rattle.masks.proofs.segment_mask_matrix.Statement.{statement}
 use Rattle.masks.proofs.segment_mask_matrix.Tie as tie
 
@@ -7,8 +7,18 @@ pub segment-mask-matrix-spec : {M : Type 1} → statement M
 segment-mask-matrix-spec =
     tie.close
     (tie.spec
-    (λ c κs. search clearing)
-    (λ c κs. search clearing)
-    (λ c. search clearing)
-    (λ c. search clearing)
-    (λ c. search clearing))
+    (λ c κs. search answering)
+    (λ c κs. search answering)
+    (λ c. search answering)
+    (λ c. search answering)
+    (λ c. search answering)
+    (λ c κs. search answering)
+    (λ c. search answering)
+    (λ c κs. search answering)
+    (λ c. search answering)
+    (λ c. search answering)
+    (λ c. search answering)
+    (λ c. search answering)
+    (λ c. search answering)
+    (λ c. search answering)
+    (λ c. search answering))

@@ -10,10 +10,10 @@ fill-rows-spec =
     (tie.spec
     (λ c κs.
     let s = c .before .before .before .before .before .before .before .before .before .pre in
-    ((s .points, s .each), ((s .narrow, omega (arith, s .few, s .broad)), s .order)))
+    (s .0, ((s .1 .1 .0 .0, omega (arith, s .1 .0, s .1 .1 .0 .1)), s .1 .1 .1)))
     (λ c κs.
     let s = c .before .before .before .before .before .before .before .before .before .before .before .before .before .before .before .pre in
-    ((s .points, s .each), omega (arith, s .few, s .escapes)))
+    (s .0, omega (arith, s .1 .0, s .1 .1 .0 .2)))
     (λ c. c .before .before .before .before .before .before .before .before .split-rows .kept .1 .1 .1 .1 .1 .0)
     (λ c. c .before .before .before .before .before .before .before .before .split-rows .kept .1 .1 .1 .1 .1 .1 .0)
     (λ c. c .before .before .merge-escape-ranges .kept .1 .1 .1 .1 .1 .0)

@@ -84,8 +84,7 @@ fn build(list: &[Transition], name: &str, calls: usize) {
     compare(&format!("build_rows {name}, {count} segments"), calls, rust, ours);
 }
 
-/// What the calls have to write whatever the list: the zeros, by the C library's `memset`. Of the six
-/// buffers of a row call the two for masks are cleared where the list is refused, and only there.
+/// What the calls have to write whatever the list: the zeros, by the C library's `memset`.
 fn zeros() {
     let mut segments = vec![1_u32; SEGMENT_NUMBERS];
     let mut masks = vec![1_u64; MASK_WORDS];
@@ -96,10 +95,6 @@ fn zeros() {
         black_box(&mut segments).fill(0);
         black_box(&mut masks).fill(0);
     });
-    alone("zeros of the segments' and the rows' buffers alone", calls, |_| {
-        black_box(&mut segments).fill(0);
-        black_box(&mut rows).fill(0);
-    });
     let mut distinct = vec![1_u64; MASK_WORDS];
     alone("zeros of the six buffers of a row call alone", calls, |_| {
         black_box(&mut segments).fill(0);
@@ -107,8 +102,7 @@ fn zeros() {
         black_box(&mut distinct).fill(0);
         black_box(&mut rows).fill(0);
     });
-    // A list that is refused at its first byte costs a row call just these, the segments' twice, and the
-    // call.
+    // A list that is refused at its first byte costs a row call just these, and the call.
     let mut ascii = [0; 128];
     let (wide, escape) = rows.split_at_mut(ROW_NUMBERS);
     alone("build_rows of a list that is refused", calls, |_| {
