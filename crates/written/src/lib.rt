@@ -63,7 +63,20 @@ pub fn clear(numbers: &mut [u32])
     }
 }
 
-pub fn clear_words(words: &mut [u64])
+// The same for 64-bit words, of which every buffer that is lent is long.
+fn word_bits(block: &[u64]) -> u64
+    ensures { λ r. ⌜ (r ≡ 0 → now (block .entry) ≡ zeros (length (now (block .entry)))) ⌝ }
+{
+    let mut all = 0;
+    let mut n = 0;
+    while n < block.len() {
+        all = all | block[n];
+        n += 1;
+    }
+    all
+}
+
+fn write_zero_words(words: &mut [u64])
     ensures { λ _. ⌜ now (words .exit) ≡ zeros (length (now (words .entry))) ⌝ }
 {
     let mut k = 0;
@@ -71,4 +84,23 @@ pub fn clear_words(words: &mut [u64])
         words[k] = 0;
         k += 1;
     }
+}
+
+fn clear_word_block(block: &mut [u64])
+    ensures { λ _. ⌜ now (block .exit) ≡ zeros (length (now (block .entry))) ⌝ }
+{
+    if word_bits(block) != 0 {
+        write_zero_words(block);
+    }
+}
+
+pub fn clear_words(words: &mut [u64])
+    ensures { λ _. ⌜ now (words .exit) ≡ zeros (length (now (words .entry))) ⌝ }
+{
+    let mut from = 0;
+    while words.len() - from >= BLOCK {
+        clear_word_block(&mut words[from..from + BLOCK]);
+        from += BLOCK;
+    }
+    write_zero_words(&mut words[from..]);
 }

@@ -1,4 +1,4 @@
--- The words before k are 0, the others as they were. The measure is how many are left.
+-- The words before `from` are 0, the others as they were. The measure is how many are left.
 use Prim.Native.Nat.{_-_, _≤_}
 use mathlib.Core.Path.{_≡_}
 use mathlib.Core.List.{_++_}
@@ -8,11 +8,11 @@ use Rattle.written.proofs.clear_words.Statement.{statement}
 use Rattle.written.proofs.clear_words.Tie as tie
 
 abbrev Inv-loop : tie.InvT-loop
-Inv-loop words₀ k₀ words k =
-    (words ≡ replicate k 0 ++ drop k words₀) × (length words ≡ length words₀) × (k ≤ length words₀)
+Inv-loop words₀ from₀ words from =
+    (words ≡ replicate from 0 ++ drop from words₀) × (length words ≡ length words₀) × (from ≤ length words₀)
 
 abbrev μ-loop : tie.MeasureT-loop
-μ-loop words₀ k₀ words k = length words₀ - k
+μ-loop words₀ from₀ words from = length words₀ - from
 
 pub clear-words-spec : {M : Type 1} → statement M
 clear-words-spec =
@@ -21,6 +21,16 @@ clear-words-spec =
     Inv-loop
     μ-loop
     (λ c. search clearing)
+    (λ c. search clearing)
+    (λ c. search clearing)
+    (λ c. search clearing)
+    (λ c. search clearing)
+    (λ c. search clearing)
+    (λ c. search clearing)
+    (λ c. search clearing)
+    (λ c. search clearing)
+    (λ c. search clearing)
+    (λ c. (search clearing, search clearing, search clearing))
     (λ c. search clearing)
     (λ c. search clearing)
     (λ c. search clearing)
