@@ -25,6 +25,9 @@ mod show;
 mod tables;
 mod telling;
 
+use std::sync::Mutex;
+use std::sync::atomic::{AtomicUsize, Ordering::Relaxed};
+use std::thread;
 use std::time::Instant;
 
 /// A check ends in a panic where something differs, else with the number of its cases.
@@ -133,28 +136,49 @@ fn program(check: Check) -> Result<Check, String> {
     Ok(check)
 }
 
+/// Runs one check, and gives the line that tells of it.
+fn line(name: &str, check: &Result<Check, String>) -> String {
+    match check {
+        Ok(check) => {
+            let start = Instant::now();
+            let cases = check();
+            let seconds = start.elapsed().as_secs_f64();
+            format!("{name:<50} {cases:>9} cases {seconds:>6.2} s")
+        }
+        Err(why) => format!("{name:<50} NOT RUN: {why}"),
+    }
+}
+
 fn main() {
     let words: Vec<String> = std::env::args().skip(1).collect();
     let asked = |name: &str| {
         let mut words = words.iter().filter(|word| !word.starts_with('-')).peekable();
         words.peek().is_none() || words.any(|word| name.contains(word.as_str()))
     };
-    let (mut run, mut not_run) = (0, 0);
-    println!();
-    for (name, check) in checks().into_iter().filter(|(name, _)| asked(name)) {
-        match check {
-            Ok(check) => {
-                let start = Instant::now();
-                let cases = check();
-                let seconds = start.elapsed().as_secs_f64();
-                println!("{name:<50} {cases:>9} cases {seconds:>6.2} s");
-                run += 1;
-            }
-            Err(why) => {
-                println!("{name:<50} NOT RUN: {why}");
-                not_run += 1;
+    let checks: Vec<_> = checks().into_iter().filter(|(name, _)| asked(name)).collect();
+    let not_run = checks.iter().filter(|(_, check)| check.is_err()).count();
+
+    // Each processor takes the next check; a line is printed when those before it are.
+    let next = AtomicUsize::new(0);
+    let lines = Mutex::new((0, vec![None; checks.len()]));
+    let work = || {
+        loop {
+            let place = next.fetch_add(1, Relaxed);
+            let Some((name, check)) = checks.get(place) else { break };
+            let said = line(name, check);
+            let (printed, lines) = &mut *lines.lock().expect("no check holds it");
+            lines[place] = Some(said);
+            while let Some(Some(said)) = lines.get(*printed) {
+                println!("{said}");
+                *printed += 1;
             }
         }
-    }
-    println!("\ncompare: {run} checks hold, {not_run} not run\n");
+    };
+    println!();
+    thread::scope(|scope| {
+        for _ in 0..thread::available_parallelism().map_or(1, usize::from) {
+            scope.spawn(work);
+        }
+    });
+    println!("\ncompare: {} checks hold, {not_run} not run\n", checks.len() - not_run);
 }
