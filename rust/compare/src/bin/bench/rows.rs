@@ -102,6 +102,10 @@ fn zeros() {
         black_box(&mut distinct).fill(0);
         black_box(&mut rows).fill(0);
     });
+    alone("reading of the six buffers alone", calls, |_| {
+        let numbers = bits_u32(black_box(&segments)) | bits_u32(black_box(&rows));
+        u64::from(numbers) | bits_u64(black_box(&masks)) | bits_u64(black_box(&distinct))
+    });
     // A list that is refused at its first byte costs a row call just these, and the call.
     let mut ascii = [0; 128];
     let (wide, escape) = rows.split_at_mut(ROW_NUMBERS);
@@ -117,6 +121,29 @@ fn zeros() {
         build_rows(black_box(&[6, 0, 0]), &[], &[], lent)
     });
 }
+
+/// The bits of all numbers together, read as wide as the processor can: a call that leaves zeros in a
+/// buffer of whatever numbers has to read each of them, or to write it.
+macro_rules! bits {
+    ($name:ident, $wide:ident, $number:ty) => {
+        fn $name(numbers: &[$number]) -> $number {
+            #[cfg(target_arch = "x86_64")]
+            if is_x86_feature_detected!("avx512f") {
+                // SAFETY: the processor has what the function is compiled for.
+                return unsafe { $wide(numbers) };
+            }
+            numbers.iter().fold(0, |bits, number| bits | number)
+        }
+
+        #[cfg(target_arch = "x86_64")]
+        #[target_feature(enable = "avx512f")]
+        fn $wide(numbers: &[$number]) -> $number {
+            numbers.iter().fold(0, |bits, number| bits | number)
+        }
+    };
+}
+bits!(bits_u32, wide_bits_u32, u32);
+bits!(bits_u64, wide_bits_u64, u64);
 
 /// Rows that stand in their pool, asked for in seeded order.
 pub fn pools() {
