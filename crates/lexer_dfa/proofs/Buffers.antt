@@ -22,7 +22,7 @@ use Rattle.transitions.proofs.Order.{le-cases}
 use Rattle.segments.specs.Segments.{Asc, cutsOf, starts, startsFrom, segments, segmentsFrom}
 use Rattle.masks.specs.Masks.{bit, wordsFor, maskOf, masksAt, matrix, flat, distinct, distinctOf}
 use Rattle.masks.proofs.Answers.{length-mask}
-use Rattle.distinct_masks.proofs.Distincts.{Wide, length-flat, wide-distinct}
+use Rattle.mask_places.proofs.Distincts.{Wide, length-flat, wide-distinct}
 use Rattle.row_laws.specs.Row.{Row, numbers}
 use Rattle.row_laws.specs.Demand.{heldBy, maskBit, segmentMaskFrom, segmentMaskOver, segmentMask}
 use Rattle.row_laws.proofs.Built.{asc-cuts}

@@ -30,7 +30,7 @@ use Rattle.masks.specs.Masks.{bit, wordsFor, flat, matrix, distinctOf}
 use Rattle.masks.specs.Answer as masks
 use Rattle.masks.specs.Answer.{parseMasks, parseDistinct, masksIn, Matrix, Distinct}
 use Rattle.masks.proofs.Answers.{length-masks}
-use Rattle.distinct_masks.proofs.Answers.{accepted-list}
+use Rattle.mask_places.proofs.Answers.{accepted-list}
 use Rattle.row_laws.specs.Row.{DEAD, numbers}
 use Rattle.row_laws.specs.Build.{targetRow, asciiOf, wideOf, escapeOf}
 use Rattle.row_laws.specs.Demand as law

@@ -3,7 +3,7 @@ use Prim.Native.Nat.{ℕ}
 use mathlib.Core.Path.{_≡_, refl, sym, ap₂, _∙_}
 use mathlib.Core.List.{List, [], _∷_}
 use Rattle.written.proofs.clear_words.Reads as clear-words
-use Rattle.distinct_masks.proofs.place_masks.Reads as place-masks
+use Rattle.mask_places.proofs.place_masks.Reads as place-masks
 use Rattle.masks.proofs.Answers.{told-one}
 use Rattle.rows.proofs.build_rows.Reads as build-rows
 use Rattle.rows.proofs.Building.{said-one}

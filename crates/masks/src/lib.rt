@@ -1,5 +1,5 @@
 // The masks of the segments of a list of transitions: which transitions hold a segment, 64 to a word, for each segment. A list may be of any
-// length and hold any bytes. The answer `Places` is that of `distinct_masks` above, whose definitions stand here with the others.
+// length and hold any bytes. The answer `Places` is that of `mask_places` above, whose definitions stand here with the others.
 ghost use mathlib.Core.Path.{_≡_};
 ghost use mathlib.Core.Bool.{true};
 ghost use Prim.Native.Nat.{_+_, _*_, _/_, _≤_, _<_, min};

@@ -26,8 +26,8 @@ use Rattle.masks.specs.Masks.{maskOf, masksAt, matrix, flat, isZero, distinctOf
 use Rattle.masks.specs.Answer.{told, parseDistinct, parsePlaces, foundIn, masksIn, placedIn, Placed}
 use Rattle.masks.proofs.Keeps.{place-some, place-none}
 use Rattle.masks.proofs.Answers.{length-masks}
-use Rattle.distinct_masks.proofs.Distincts.{length-places, few-distinct}
-use Rattle.distinct_masks.proofs.Answers.{accepted-list, roomy-places}
+use Rattle.mask_places.proofs.Distincts.{length-places, few-distinct}
+use Rattle.mask_places.proofs.Answers.{accepted-list, roomy-places}
 use Rattle.row_laws.specs.Row.{Row, DEAD, Sorted, numbers, rowFrom, rowOver, joinTo, join, partFrom, values, asciiPart, widePart}
 use Rattle.row_laws.specs.Build.{given, targetOf, contOf, targetRow, contRow, asciiOf, wideOf, escapeOf}
 use Rattle.row_laws.proofs.Built as built

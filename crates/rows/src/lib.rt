@@ -410,7 +410,7 @@ pub fn build_rows(
 {
     let short = clear_rows(ascii, wide, escape);
     let mut places = [0u32; 2048];
-    match distinct_masks::place_masks(list, segments, masks, distinct, &mut places) {
+    match mask_places::place_masks(list, segments, masks, distinct, &mut places) {
         Places::Found {
             segments: count,
             masks: d,

@@ -4,10 +4,10 @@ use mathlib.Core.Path.{_≡_}
 use native.Mathlib.Omega.{arith}
 use lib.ListN.{length, take, drop}
 use Rattle.masks.specs.Masks.{index}
-use Rattle.distinct_masks.specs.Walk.{chunks}
-use Rattle.distinct_masks.proofs.Distincts.{finding, one-there}
-use Rattle.distinct_masks.proofs.find_mask.Statement.{statement}
-use Rattle.distinct_masks.proofs.find_mask.Tie as tie
+use Rattle.mask_places.specs.Walk.{chunks}
+use Rattle.mask_places.proofs.Distincts.{finding, one-there}
+use Rattle.mask_places.proofs.find_mask.Statement.{statement}
+use Rattle.mask_places.proofs.find_mask.Tie as tie
 
 abbrev Inv-loop : tie.InvT-loop
 Inv-loop known d masks at words left₀ p₀ i₀ left p i =

@@ -3,9 +3,9 @@ use Prim.Native.Nat.{_+_, _≤_}
 use mathlib.Core.Path.{_≡_}
 use lib.ListN.{length, take, drop}
 use Rattle.masks.specs.Masks.{isZero}
-use Rattle.distinct_masks.proofs.Parts.{parts}
-use Rattle.distinct_masks.proofs.is_zero.Statement.{statement}
-use Rattle.distinct_masks.proofs.is_zero.Tie as tie
+use Rattle.mask_places.proofs.Parts.{parts}
+use Rattle.mask_places.proofs.is_zero.Statement.{statement}
+use Rattle.mask_places.proofs.is_zero.Tie as tie
 
 abbrev Inv-loop : tie.InvT-loop
 Inv-loop masks at words here₀ left₀ here left = (here + left ≤ length masks) × (isZero (take left (drop here masks)) ≡ isZero (take words (drop at masks)))

@@ -1,7 +1,7 @@
 -- The masks, and then the distinct ones with the places, where the list is accepted.
-use Rattle.distinct_masks.proofs.Answers.{filling}
-use Rattle.distinct_masks.proofs.fill_places.Statement.{statement}
-use Rattle.distinct_masks.proofs.fill_places.Tie as tie
+use Rattle.mask_places.proofs.Answers.{filling}
+use Rattle.mask_places.proofs.fill_places.Statement.{statement}
+use Rattle.mask_places.proofs.fill_places.Tie as tie
 
 pub fill-places-spec : {M : Type 1} → statement M
 fill-places-spec =

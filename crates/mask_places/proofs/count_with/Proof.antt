@@ -1,7 +1,7 @@
 -- By the test on the way.
-use Rattle.distinct_masks.proofs.Distincts.{counting}
-use Rattle.distinct_masks.proofs.count_with.Statement.{statement}
-use Rattle.distinct_masks.proofs.count_with.Tie as tie
+use Rattle.mask_places.proofs.Distincts.{counting}
+use Rattle.mask_places.proofs.count_with.Statement.{statement}
+use Rattle.mask_places.proofs.count_with.Tie as tie
 
 pub count-with-spec : {M : Type 1} → statement M
 count-with-spec =

@@ -1,7 +1,7 @@
 -- The buffers are cleared, and filled where they are long enough and the list is accepted.
-use Rattle.distinct_masks.proofs.Answers.{placing}
-use Rattle.distinct_masks.proofs.place_masks.Statement.{statement}
-use Rattle.distinct_masks.proofs.place_masks.Tie as tie
+use Rattle.mask_places.proofs.Answers.{placing}
+use Rattle.mask_places.proofs.place_masks.Statement.{statement}
+use Rattle.mask_places.proofs.place_masks.Tie as tie
 
 pub place-masks-spec : {M : Type 1} → statement M
 place-masks-spec =

@@ -2,9 +2,9 @@
 use Prim.Native.Nat.{_+_, _≤_}
 use lib.ListN.{length, take, drop}
 use Rattle.written.proofs.Going.{Going}
-use Rattle.distinct_masks.proofs.Parts.{parts}
-use Rattle.distinct_masks.proofs.put_words.Statement.{statement}
-use Rattle.distinct_masks.proofs.put_words.Tie as tie
+use Rattle.mask_places.proofs.Parts.{parts}
+use Rattle.mask_places.proofs.put_words.Statement.{statement}
+use Rattle.mask_places.proofs.put_words.Tie as tie
 
 abbrev Inv-loop : tie.InvT-loop
 Inv-loop masks at words out₀ k here₀ left₀ m₀ out here left m = (here + left ≤ length masks) × Going (take words (drop at masks)) k out₀ (take left (drop here masks)) m out

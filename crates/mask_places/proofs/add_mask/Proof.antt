@@ -1,7 +1,7 @@
 -- The mask is empty, or stands there, or is put behind the others.
-use Rattle.distinct_masks.proofs.Distincts.{adding}
-use Rattle.distinct_masks.proofs.add_mask.Statement.{statement}
-use Rattle.distinct_masks.proofs.add_mask.Tie as tie
+use Rattle.mask_places.proofs.Distincts.{adding}
+use Rattle.mask_places.proofs.add_mask.Statement.{statement}
+use Rattle.mask_places.proofs.add_mask.Tie as tie
 
 pub add-mask-spec : {M : Type 1} → statement M
 add-mask-spec =

@@ -18,7 +18,7 @@ use Rattle.written.proofs.Overs.{lay-length, lay-none, lay-lay}
 use Rattle.written.proofs.Going.{Going, going-start, going-place, going-put, going-done}
 use Rattle.transitions.proofs.Order.{le-cases}
 use Rattle.masks.specs.Masks.{flat, isZero, index, addNew, distinct, placeOf, placesIn}
-use Rattle.distinct_masks.specs.Walk.{chunks, Entered, Gathered, Spaced}
+use Rattle.mask_places.specs.Walk.{chunks, Entered, Gathered, Spaced}
 use Rattle.masks.proofs.Keeps.{index-last, place-some, place-none, place-keep}
 
 -- Masks one behind another

@@ -3,9 +3,9 @@ use Prim.Native.Nat.{_+_, _≤_}
 use mathlib.Core.Path.{_≡_}
 use lib.ListN.{length, take, drop}
 use Rattle.refusal.specs.Lists.{sameList}
-use Rattle.distinct_masks.proofs.Parts.{parts}
-use Rattle.distinct_masks.proofs.same_at.Statement.{statement}
-use Rattle.distinct_masks.proofs.same_at.Tie as tie
+use Rattle.mask_places.proofs.Parts.{parts}
+use Rattle.mask_places.proofs.same_at.Statement.{statement}
+use Rattle.mask_places.proofs.same_at.Tie as tie
 
 abbrev Inv-loop : tie.InvT-loop
 Inv-loop known p masks at words i₀ j₀ left₀ i j left =

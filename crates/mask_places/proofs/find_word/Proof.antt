@@ -4,10 +4,10 @@ use mathlib.Core.Path.{_≡_}
 use mathlib.Core.List.{[], _∷_}
 use lib.ListN.{drop}
 use Rattle.masks.specs.Masks.{index}
-use Rattle.distinct_masks.specs.Walk.{chunks}
-use Rattle.distinct_masks.proofs.Distincts.{wording}
-use Rattle.distinct_masks.proofs.find_word.Statement.{statement}
-use Rattle.distinct_masks.proofs.find_word.Tie as tie
+use Rattle.mask_places.specs.Walk.{chunks}
+use Rattle.mask_places.proofs.Distincts.{wording}
+use Rattle.mask_places.proofs.find_word.Statement.{statement}
+use Rattle.mask_places.proofs.find_word.Tie as tie
 
 abbrev Inv-loop : tie.InvT-loop
 Inv-loop known d x i₀ i = (i ≤ d) × (i + index (chunks (d - i) 1 (drop i known)) (x ∷ []) ≡ index (chunks d 1 known) (x ∷ []))

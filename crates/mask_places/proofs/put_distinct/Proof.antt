@@ -1,8 +1,8 @@
 -- The masks that stand, with those that are left, give the distinct ones of all. The measure is how many are left.
 use native.Mathlib.Omega.{arith}
-use Rattle.distinct_masks.proofs.Distincts.{Gathering, gathering, gather-one}
-use Rattle.distinct_masks.proofs.put_distinct.Statement.{statement}
-use Rattle.distinct_masks.proofs.put_distinct.Tie as tie
+use Rattle.mask_places.proofs.Distincts.{Gathering, gathering, gather-one}
+use Rattle.mask_places.proofs.put_distinct.Statement.{statement}
+use Rattle.mask_places.proofs.put_distinct.Tie as tie
 
 abbrev Inv-loop : tie.InvT-loop
 Inv-loop masks count words out₀ places₀ left₀ at₀ d₀ i₀ out places left at d i = Gathering masks count words out₀ places₀ left at d i out places
