@@ -1,50 +1,12 @@
--- What a place was given, and the segments as ranges with their goals. Assumes nothing.
+-- The segments as ranges with their goals: the next, and those behind it. Assumes nothing.
 use Prim.Native.Nat.{ℕ, zero, suc, _+_, _*_, _-_, _≤_, _<_}
-use mathlib.Core.Path.{_≡_, refl, sym, ap, _∙_}
-use mathlib.Core.Bool.{Bool, true, false}
+use mathlib.Core.Path.{_≡_, refl, ap}
+use mathlib.Core.Bool.{Bool}
 use mathlib.Core.List.{List, [], _∷_}
-use native.Mathlib.Nat.{not-suc-le-zero}
 use native.Mathlib.Omega.{arith}
-use borrow.Author.Needs.{needs}
-use borrow.Author.Tests.{eq-eqb, ne-eqb}
-use lib.ListN.{length, getD, List·getD-eq-default}
-use Rattle.refusal.specs.Fixed.{NONE}
-use Rattle.row_laws.specs.Row.{DEAD}
-use Rattle.rows.specs.Aimed.{rangeOf, goalOf, aimed}
-
-getD-any : (l : List ℕ) (k a b : ℕ) → k < length l → getD l k a ≡ getD l k b
-getD-any [] k a b h = absurd (not-suc-le-zero h)
-getD-any (x ∷ l) zero a b h = refl
-getD-any (x ∷ l) (suc k) a b h = getD-any l k a b (omega arith)
-
-module _ (l : List ℕ) (k : ℕ) where
-  pub given-target : k < length l → getD l k 0 ≡ getD l k 65535
-  given-target h = getD-any l k 0 65535 h
-
-  pub given-none : length l ≤ k → 65535 ≡ getD l k 65535
-  given-none h = sym (List·getD-eq-default l 65535 h)
-
-  pub given-cont : k < length l → getD l k 0 ≡ getD l k 4294967295
-  given-cont h = getD-any l k 0 4294967295 h
-
-  pub given-no-cont : length l ≤ k → 4294967295 ≡ getD l k 4294967295
-  given-no-cont h = sym (List·getD-eq-default l 4294967295 h)
-
-pub ruleset giving = (needs, given-target, given-none, given-cont, given-no-cont)
-
-module _ (e : Bool) (ts cs : List ℕ) (k : ℕ) {x g : ℕ} (t : x ≡ getD ts k 65535) (n : g ≡ x) where
-  pub goal-dead : e ≡ true → g ≡ 65535 → NONE ≡ goalOf e ts cs k
-  goal-dead h d = rw (h, eq-eqb (getD ts k DEAD) DEAD (sym (n ∙ t) ∙ d))
-
-  pub goal-cont : {r : ℕ} → e ≡ true → (g ≡ 65535 → ⊥) → r ≡ getD cs k 4294967295 → r ≡ goalOf e ts cs k
-  goal-cont h d c = rw (h, ne-eqb (getD ts k DEAD) DEAD (λ i. d (n ∙ t ∙ i))) c
-
-  pub goal-target : e ≡ false → g ≡ goalOf e ts cs k
-  goal-target h = rw h (n ∙ t)
-
-pub ruleset aiming = (needs, goal-dead, goal-cont, goal-target)
-
--- The segments that are left: the next, and those behind it
+use lib.ListN.{length, getD}
+use Rattle.row_goals.specs.Goals.{goalOf}
+use Rattle.rows.specs.Aimed.{rangeOf, aimed}
 
 module _ (e : Bool) (ts cs segs ps : List ℕ) where
   pub length-aimed : (n k : ℕ) → length (aimed e ts cs segs ps n k) ≡ n

@@ -5,7 +5,7 @@ use mathlib.Core.Bool.{Bool, true, false, false≢true, _&&_, _||_}
 use mathlib.Core.List.{List, [], _∷_, _++_}
 use native.Mathlib.Omega.{arith}
 use borrow.Author.Needs.{needs}
-use borrow.Author.Tests.{eq-eqb, ne-eqb, eqb-true, lt-ltb, le-ltb, ltb-false}
+use borrow.Author.Tests.{eqb-true, lt-ltb, le-ltb, ltb-false}
 use lib.Dec.{eqb, ltb}
 use lib.ListN.{length, getD, length-append, length-replicate, List·getD-eq-default}
 use Rattle.refusal.specs.declared.Refusal.{Refusal}
@@ -34,27 +34,16 @@ use Rattle.row_laws.proofs.Built as built
 use Rattle.row_laws.proofs.Searches.{sorted-weaken}
 use Rattle.row_laws.proofs.Parts.{length-values}
 use Rattle.lookup_laws.specs.Looks.{goalAt}
+use Rattle.row_goals.specs.Goals.{goalOf, noGoal, differs, refusalOf}
 use Rattle.rows.specs.declared.Rows.{Rows}
 use Rattle.rows.specs.declared.Rows.the-variants.{Built, Refused}
 use Rattle.rows.specs.Answer.{said, Lent, lent, tooShort, withRows, parseRows, counted, asciiIn, wideIn, escapeIn, Builds}
-use Rattle.rows.specs.Aimed.{rangeOf, goalOf, noGoal, aimed, living, joined, Filled, differs, refusalOf}
+use Rattle.rows.specs.Aimed.{rangeOf, aimed, living, joined, Filled}
 use Rattle.rows.proofs.Living.{living-joined, look-living, part-joined, part-all}
 use Rattle.rows.proofs.Joining.{few-joined}
 use Rattle.rows.proofs.Parting.{values-same}
 
 -- The refusals behind the records
-
-module _ (d t c : ℕ) where
-  pub other-targets : (t ≡ d → ⊥) → true ≡ differs d t c
-  other-targets n = rw (ne-eqb t d n)
-
-  pub other-conts : t ≡ d → (c ≡ d → ⊥) → true ≡ differs d t c
-  other-conts x n = rw (eq-eqb t d x, ne-eqb c d n)
-
-  pub as-many : t ≡ d → c ≡ d → false ≡ differs d t c
-  as-many x y = rw (eq-eqb t d x, eq-eqb c d y)
-
-pub ruleset counting = (needs, other-targets, other-conts, as-many)
 
 module _ (a w e : ℕ) where
   pub ascii-short : a < 128 → true ≡ (ltb a 128 || ltb w 6144 || ltb e 6144)
@@ -276,16 +265,13 @@ module _ (w targets conts sg mk ds ai ws es : List ℕ) {short : Bool} {ai₁ ws
       (subst (Placed (place.Refused r) (length sg) sg₁ (length mk) mk₁ (length ds) ds₁ 2048 ps) x-is (judge-refused (length targets) (length conts) short y (placed i)))
       (z .1) (z .2) (z .3)
 
-  module _ {c m k : ℕ} (i : got ≡ place.Found c m k) {o : Bool} (b : o ≡ differs m (length targets) (length conts)) {number : ℕ} (n : number ≡ refusalOf o short) where
-    number-is : number ≡ refusalOf (differs m (length targets) (length conts)) short
-    number-is = n ∙ ap (λ (x : Bool). refusalOf x short) b
-
+  module _ {c m k : ℕ} (i : got ≡ place.Found c m k) {number : ℕ} (n : number ≡ refusalOf (differs m (length targets) (length conts)) short) where
     pub build-none : {sg₂ mk₂ ds₂ : List ℕ} → (number ≡ 0 → ⊥) → (sg₂ ≡ zeros (length sg₁)) × (mk₂ ≡ zeros (length mk₁)) × (ds₂ ≡ zeros (length ds₁)) →
         length sg₁ ≡ length sg → length mk₁ ≡ length mk → length ds₁ ≡ length ds →
         Builds (Refused (record { number = number; place = 0 })) (lent sg mk ds ai ws es) sg₂ mk₂ ds₂ ai₁ ws₁ es₁ targets conts (parseRows (lent sg mk ds ai ws es) w targets conts)
     unfolding segmentsIn masksIn counted asciiIn wideIn escapeIn
     build-none q v a e d =
-        rw (sym x-is ∙ judge-none (length targets) (length conts) short y (placed i) number-is q)
+        rw (sym x-is ∙ judge-none (length targets) (length conts) short y (placed i) n q)
         (record {
           says = refl;
           low-high = v .0 ∙ ap zeros a;
@@ -301,7 +287,7 @@ module _ (w targets conts sg mk ds ai ws es : List ℕ) {short : Bool} {ai₁ ws
       p =
           parts (length sg) (length mk) (length ds) x
           (subst (Placed (place.Found c m k) (length sg) sg₁ (length mk) mk₁ (length ds) ds₁ 2048 ps) x-is
-          (judge-found (length targets) (length conts) short y (placed i) (sym number-is ∙ q)))
+          (judge-found (length targets) (length conts) short y (placed i) (sym n ∙ q)))
 
       abbrev ts : List Transition
       ts = p .ts

@@ -7,7 +7,6 @@ use mathlib.Core.List.{List, [], _∷_, _++_}
 use native.Mathlib.Nat.{add-zero}
 use native.Mathlib.Omega.{arith}
 use borrow.Author.Needs.{needs}
-use borrow.Author.Tests.{eq-eqb, ne-eqb, lt-ltb, le-ltb}
 use lib.Dec.{eqb, ltb}
 use lib.ListN.{length, getD, set, length-set}
 use Rattle.refusal.specs.Lists.{pick}
@@ -18,7 +17,8 @@ use Rattle.written.proofs.Going.{Going, going-start, going-done, going-turn, pu
 use Rattle.row_laws.specs.Row.{Row, touches, joinTo, partFrom, numbers}
 use Rattle.row_laws.proofs.Joins.{touch-or-not}
 use Rattle.row_laws.proofs.Sizes.{length-joinTo, length-part}
-use Rattle.rows.specs.Aimed.{rangeOf, goalOf, noGoal, firstOf, aimed, living, seen, seenWords, joined}
+use Rattle.row_goals.specs.Goals.{goalOf, noGoal, firstOf}
+use Rattle.rows.specs.Aimed.{rangeOf, aimed, living, seen, seenWords, joined}
 use Rattle.rows.proofs.Living.{few-living}
 use Rattle.rows.proofs.Aiming.{length-aimed, aimed-turn, aimed-done, aimed-all}
 
@@ -45,30 +45,7 @@ module _ (n : ℕ) (d : List ℕ) (h : n + 3 ≤ length d) where
 
 pub ruleset storing = (needs, second-place, third-place, three-put)
 
--- Which ranges are written, and from where on
-
-module _ (e : Bool) where
-  module _ (high goal : ℕ) where
-    pub unseen-escape : {r : Bool} → e ≡ true → r ≡ eqb goal 4294967295 → r ≡ (ltb high (firstOf e) || eqb goal (noGoal e))
-    unseen-escape h i = let l : 0 ≤ high = omega arith in rw (h, le-ltb high 0 l) i
-
-    pub unseen-below : e ≡ false → high < 128 → true ≡ (ltb high (firstOf e) || eqb goal (noGoal e))
-    unseen-below h l = rw (h, lt-ltb high 128 l)
-
-    pub unseen-dead : {r : Bool} → e ≡ false → 128 ≤ high → r ≡ eqb goal 65535 → r ≡ (ltb high (firstOf e) || eqb goal (noGoal e))
-    unseen-dead h l i = rw (h, le-ltb high 128 l) i
-
-  module _ (low : ℕ) where
-    pub low-escape : e ≡ true → low ≡ max low (firstOf e)
-    low-escape h = rw h (omega arith)
-
-    pub low-below : e ≡ false → low < 128 → 128 ≡ max low (firstOf e)
-    low-below h l = rw h (omega arith)
-
-    pub low-over : e ≡ false → 128 ≤ low → low ≡ max low (firstOf e)
-    low-over h l = rw h (omega arith)
-
-pub ruleset seeing = (needs, unseen-escape, unseen-below, unseen-dead, low-escape, low-below, low-over)
+-- .. or left out
 
 module _ (t e : Bool) (low high goal n : ℕ) (d : List ℕ) where
   pub put-grows : t ≡ true → Put (pick t [] (seenWords e low high goal)) n d n d
@@ -89,20 +66,6 @@ pub pick-false : (t : Bool) (x y : ℕ) → t ≡ false → y ≡ pick t x y
 pick-false t x y e = rw e
 
 pub ruleset choosing = (needs, put-grows, put-unseen, put-seen, pick-true, pick-false)
-
--- The test
-
-module _ (high goal next value : ℕ) where
-  pub touch-by-goal : {r : Bool} → next - high ≡ 1 → r ≡ eqb goal value → r ≡ (eqb (suc high) next && eqb goal value)
-  touch-by-goal h e = let s : suc high ≡ next = omega arith in e ∙ rw (eq-eqb (suc high) next s)
-
-  pub no-touch-gap : (next - high ≡ 1 → ⊥) → high < next → false ≡ (eqb (suc high) next && eqb goal value)
-  no-touch-gap h l = rw (ne-eqb (suc high) next (λ e. h (omega arith)))
-
-  pub no-touch-over : next ≤ high → false ≡ (eqb (suc high) next && eqb goal value)
-  no-touch-over l = rw (ne-eqb (suc high) next (λ e. omega arith))
-
-pub ruleset touching = (needs, touch-by-goal, no-touch-gap, no-touch-over)
 
 -- The numbers of a row
 

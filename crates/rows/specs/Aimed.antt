@@ -2,33 +2,21 @@
 -- what was given each place. One definition for both kinds of row, e says which: an escape row, or one of targets. Assumes nothing.
 use Prim.Native.Nat.{ℕ, zero, suc, _+_, _*_, _-_, min, max}
 use mathlib.Core.Path.{_≡_}
-use mathlib.Core.Bool.{Bool, true, false, _&&_, _||_}
+use mathlib.Core.Bool.{Bool, _||_}
 use mathlib.Core.List.{List, [], _∷_, _++_}
 use lib.Dec.{eqb, ltb}
 use lib.ListN.{length, getD, replicate}
-use Rattle.refusal.specs.Said.{ok, ROOM, TARGETS}
+use Rattle.refusal.specs.Said.{ok}
 use Rattle.refusal.specs.Lists.{pick}
-use Rattle.refusal.specs.Fixed.{NONE}
 use Rattle.table.specs.Table.{Range}
 use Rattle.written.specs.Over.{lay, Put}
 use Rattle.row_laws.specs.Row.{Row, DEAD, numbers, joinTo, partFrom, asciiPart}
+use Rattle.row_goals.specs.Goals.{goalOf, noGoal, firstOf}
 use Rattle.rows.specs.declared.Rows.{Rows}
 use Rattle.rows.specs.Answer.{said}
 
 abbrev pub rangeOf : ℕ → ℕ → ℕ → Range
 rangeOf low high goal = record { low = low; high = high; goal = goal }
-
--- what a place was given: a target; or, for an escape row, a continuation, and none where the target is dead. Behind the last place nothing was given
-abbrev pub goalOf : Bool → List ℕ → List ℕ → ℕ → ℕ
-goalOf e targets conts k = pick e (pick (eqb (getD targets k DEAD) DEAD) NONE (getD conts k NONE)) (getD targets k DEAD)
-
--- the goal of a segment that is left out
-abbrev pub noGoal : Bool → ℕ
-noGoal e = pick e NONE DEAD
-
--- where a row begins: "parts at 128"
-abbrev pub firstOf : Bool → ℕ
-firstOf e = pick e 0 128
 
 -- n segments from the k-th on, each with its goal, those that are left out too
 unfoldable pub aimed : Bool → List ℕ → List ℕ → List ℕ → List ℕ → ℕ → ℕ → Row
@@ -69,11 +57,3 @@ pub record Filled (r : Rows) (ts ws es : Row) (ascii ascii′ wide wide′ escap
   pub narrow : ascii′ ≡ lay 0 (asciiPart ts) ascii
   pub broad : wide′ ≡ lay 0 (numbers ws) wide
   pub escapes : escape′ ≡ lay 0 (numbers es) escape
-
--- "targets or continuations differ in number from distinct masks": d is how many distinct masks there are
-abbrev pub differs : ℕ → ℕ → ℕ → Bool
-differs d targets conts = pick (eqb targets d && eqb conts d) false true
-
--- "TARGETS, ROOM for these": the refusal's number, or 0
-abbrev pub refusalOf : Bool → Bool → ℕ
-refusalOf other short = pick other TARGETS (pick short ROOM 0)

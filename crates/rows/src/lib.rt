@@ -1,37 +1,24 @@
 // Row building: each segment whose mask was given a target is a range, three numbers, of a row; the row is joined where ranges of one goal touch, and
 // parted at 128 into an ascii row and a wide row; continuations go to an escape row.
 ghost use mathlib.Core.Path.{_≡_};
-ghost use mathlib.Core.Bool.{true, false, _&&_, _||_};
+ghost use mathlib.Core.Bool.{true, false, _||_};
 ghost use mathlib.Core.List.{[], _∷_};
-ghost use Prim.Native.Nat.{suc, min, max, _+_, _*_, _-_, _≤_};
-ghost use lib.Dec.{eqb, ltb};
-ghost use lib.ListN.{length, getD, replicate};
+ghost use Prim.Native.Nat.{suc, min, _+_, _*_, _-_, _≤_};
+ghost use lib.Dec.{ltb};
+ghost use lib.ListN.{length, replicate};
 ghost use Rattle.refusal.specs.Lists.{pick};
 ghost use Rattle.written.specs.Over.{Put, zeros};
 ghost use Rattle.row_laws.specs.Row.{Sorted, numbers, asciiPart};
+ghost use Rattle.row_goals.specs.Goals.{noGoal};
 ghost use Rattle.rows.specs.Answer.{lent, parseRows, Builds};
-ghost use Rattle.rows.specs.Aimed.{goalOf, noGoal, firstOf, aimed, seenWords, joined, targetsOf, Split, Filled, differs, refusalOf};
+ghost use Rattle.rows.specs.Aimed.{aimed, seenWords, joined, targetsOf, Split, Filled};
 use masks::Places;
 use refusal::DEAD_STATE;
 use refusal::NONE;
-use refusal::ROOM;
 use refusal::Refusal;
-use refusal::TARGETS;
 
 // Three numbers for each of the most ranges that a row may have, and one range to spare.
 const NUMBERS: usize = 6144;
-
-// Does a range that starts at `next` lie right behind a high, with the same goal?
-fn touches(high: u32, goal: u32, next: u32, value: u32) -> bool
-    ensures { λ r. ⌜ r ≡ (eqb (suc high) next && eqb goal value) ⌝ }
-{
-    if high < next {
-        if next - high == 1 {
-            return goal == value;
-        }
-    }
-    false
-}
 
 fn put_range(out: &mut [u32], n: usize, low: u32, high: u32, goal: u32) -> usize
     requires { ⌜ n + 3 ≤ length (now out) ⌝ }
@@ -41,32 +28,6 @@ fn put_range(out: &mut [u32], n: usize, low: u32, high: u32, goal: u32) -> usize
     out[n + 1] = high;
     out[n + 2] = goal;
     n + 3
-}
-
-// Is a range left out of its row? One without a goal is, and one that ends before the row begins.
-fn unseen(escape: bool, high: u32, goal: u32) -> bool
-    ensures { λ r. ⌜ r ≡ (ltb high (firstOf escape) || eqb goal (noGoal escape)) ⌝ }
-{
-    if escape {
-        return goal == NONE;
-    }
-    if high < 128 {
-        return true;
-    }
-    goal == 65535
-}
-
-// A row of targets begins at 128.
-fn seen_low(escape: bool, low: u32) -> u32
-    ensures { λ r. ⌜ r ≡ max low (firstOf escape) ⌝ }
-{
-    if escape {
-        return low;
-    }
-    if low < 128 {
-        return 128;
-    }
-    low
 }
 
 // A range that grows is not written yet, and one that is left out not at all.
@@ -85,10 +46,10 @@ fn put_unless(
     if grows {
         return n;
     }
-    if unseen(escape, high, goal) {
+    if row_goals::unseen(escape, high, goal) {
         return n;
     }
-    put_range(out, n, seen_low(escape, low), high, goal)
+    put_range(out, n, row_goals::seen_low(escape, low), high, goal)
 }
 
 fn first_low(grows: bool, low: u32, next: u32) -> u32
@@ -120,12 +81,6 @@ fn edge_behind(x: u32) -> usize
     128
 }
 
-fn number(x: u16) -> u32
-    ensures { λ r. ⌜ r ≡ x ⌝ }
-{
-    x as u32
-}
-
 // Writes one target from n to before `end`.
 fn fill(out: &mut [u16], n: usize, end: usize, x: u16) -> usize
     requires { ⌜ (n ≤ end) × (end ≤ length (now out)) ⌝ }
@@ -147,40 +102,6 @@ fn put_targets(out: &mut [u16], n: usize, low: u32, high: u32, goal: u16) -> usi
 {
     let m = fill(out, n, edge(low), DEAD_STATE);
     fill(out, m, edge_behind(high), goal)
-}
-
-// What a place among the distinct masks was given; behind the last, nothing was.
-fn target_at(targets: &[u16], place: u32) -> u16
-    ensures { λ r. ⌜ r ≡ getD (now (targets .entry)) place 65535 ⌝ }
-{
-    let k = place as usize;
-    if k < targets.len() {
-        return targets[k];
-    }
-    DEAD_STATE
-}
-
-fn continuation_at(continuations: &[u32], place: u32) -> u32
-    ensures { λ r. ⌜ r ≡ getD (now (continuations .entry)) place 4294967295 ⌝ }
-{
-    let k = place as usize;
-    if k < continuations.len() {
-        return continuations[k];
-    }
-    NONE
-}
-
-fn goal_of(targets: &[u16], continuations: &[u32], escape: bool, place: u32) -> u32
-    ensures { λ r. ⌜ r ≡ goalOf escape (now (targets .entry)) (now (continuations .entry)) place ⌝ }
-{
-    let target = number(target_at(targets, place));
-    if escape {
-        if target == 65535 {
-            return NONE;
-        }
-        return continuation_at(continuations, place);
-    }
-    target
 }
 
 fn no_goal(escape: bool) -> u32
@@ -214,7 +135,7 @@ fn put_ascii(
             m,
             segments[at],
             segments[at + 1],
-            target_at(targets, places[k]),
+            row_goals::target_at(targets, places[k]),
         );
         k += 1;
     }
@@ -244,8 +165,8 @@ fn put_joined(
     while k < count {
         let at = 2 * k;
         let next = segments[at];
-        let value = goal_of(targets, continuations, escape, places[k]);
-        let grows = touches(high, goal, next, value);
+        let value = row_goals::goal_of(targets, continuations, escape, places[k]);
+        let grows = row_goals::touches(high, goal, next, value);
         m = put_unless(grows, escape, out, m, low, high, goal);
         low = first_low(grows, low, next);
         high = segments[at + 1];
@@ -325,32 +246,6 @@ fn fill_rows(
     Rows::Built { wide: n, escape: m }
 }
 
-// Do targets or continuations differ in number from the d distinct masks?
-fn differ(d: usize, targets: usize, continuations: usize) -> bool
-    ensures { λ r. ⌜ r ≡ differs d targets continuations ⌝ }
-{
-    if targets != d {
-        return true;
-    }
-    if continuations != d {
-        return true;
-    }
-    false
-}
-
-// What stands in the way of the rows once the records are read. 0 if nothing does.
-fn refusal_of(other: bool, short: bool) -> u32
-    ensures { λ r. ⌜ r ≡ refusalOf other short ⌝ }
-{
-    if other {
-        return TARGETS;
-    }
-    if short {
-        return ROOM;
-    }
-    0
-}
-
 fn too_short(ascii: usize, wide: usize, escape: usize) -> bool
     ensures { λ r. ⌜ r ≡ (ltb ascii 128 || ltb wide 6144 || ltb escape 6144) ⌝ }
 {
@@ -416,7 +311,7 @@ pub fn build_rows(
             masks: d,
             words,
         } => {
-            let number = refusal_of(differ(d, targets.len(), continuations.len()), short);
+            let number = row_goals::refusal_for(d, targets.len(), continuations.len(), short);
             if number != 0 {
                 clear_masks(segments, masks, distinct);
                 return Rows::Refused(Refusal { number, place: 0 });

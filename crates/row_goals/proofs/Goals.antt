@@ -1,0 +1,103 @@
+-- The laws of the tests on the way: the next range, what is seen of one, what a place was given, and what stands in the way. Assumes nothing.
+use Prim.Native.Nat.{ℕ, zero, suc, _-_, _≤_, _<_, max}
+use mathlib.Core.Path.{_≡_, refl, sym, ap, _∙_}
+use mathlib.Core.Bool.{Bool, true, false, _&&_, _||_}
+use mathlib.Core.List.{List, [], _∷_}
+use native.Mathlib.Nat.{not-suc-le-zero}
+use native.Mathlib.Omega.{arith}
+use borrow.Author.Needs.{needs}
+use borrow.Author.Tests.{eq-eqb, ne-eqb, lt-ltb, le-ltb}
+use lib.Dec.{eqb, ltb}
+use lib.ListN.{length, getD, List·getD-eq-default}
+use Rattle.refusal.specs.Fixed.{NONE}
+use Rattle.row_goals.specs.Goals.{goalOf, noGoal, firstOf, differs, refusalOf}
+
+-- The test
+
+module _ (high goal next value : ℕ) where
+  pub touch-by-goal : {r : Bool} → next - high ≡ 1 → r ≡ eqb goal value → r ≡ (eqb (suc high) next && eqb goal value)
+  touch-by-goal h e = let s : suc high ≡ next = omega arith in e ∙ rw (eq-eqb (suc high) next s)
+
+  pub no-touch-gap : (next - high ≡ 1 → ⊥) → high < next → false ≡ (eqb (suc high) next && eqb goal value)
+  no-touch-gap h l = rw (ne-eqb (suc high) next (λ e. h (omega arith)))
+
+  pub no-touch-over : next ≤ high → false ≡ (eqb (suc high) next && eqb goal value)
+  no-touch-over l = rw (ne-eqb (suc high) next (λ e. omega arith))
+
+pub ruleset touching = (needs, touch-by-goal, no-touch-gap, no-touch-over)
+
+-- Which ranges are written, and from where on
+
+module _ (e : Bool) where
+  module _ (high goal : ℕ) where
+    pub unseen-escape : {r : Bool} → e ≡ true → r ≡ eqb goal 4294967295 → r ≡ (ltb high (firstOf e) || eqb goal (noGoal e))
+    unseen-escape h i = let l : 0 ≤ high = omega arith in rw (h, le-ltb high 0 l) i
+
+    pub unseen-below : e ≡ false → high < 128 → true ≡ (ltb high (firstOf e) || eqb goal (noGoal e))
+    unseen-below h l = rw (h, lt-ltb high 128 l)
+
+    pub unseen-dead : {r : Bool} → e ≡ false → 128 ≤ high → r ≡ eqb goal 65535 → r ≡ (ltb high (firstOf e) || eqb goal (noGoal e))
+    unseen-dead h l i = rw (h, le-ltb high 128 l) i
+
+  module _ (low : ℕ) where
+    pub low-escape : e ≡ true → low ≡ max low (firstOf e)
+    low-escape h = rw h (omega arith)
+
+    pub low-below : e ≡ false → low < 128 → 128 ≡ max low (firstOf e)
+    low-below h l = rw h (omega arith)
+
+    pub low-over : e ≡ false → 128 ≤ low → low ≡ max low (firstOf e)
+    low-over h l = rw h (omega arith)
+
+pub ruleset seeing = (needs, unseen-escape, unseen-below, unseen-dead, low-escape, low-below, low-over)
+
+-- What a place was given
+
+getD-any : (l : List ℕ) (k a b : ℕ) → k < length l → getD l k a ≡ getD l k b
+getD-any [] k a b h = absurd (not-suc-le-zero h)
+getD-any (x ∷ l) zero a b h = refl
+getD-any (x ∷ l) (suc k) a b h = getD-any l k a b (omega arith)
+
+module _ (l : List ℕ) (k : ℕ) where
+  pub given-target : k < length l → getD l k 0 ≡ getD l k 65535
+  given-target h = getD-any l k 0 65535 h
+
+  pub given-none : length l ≤ k → 65535 ≡ getD l k 65535
+  given-none h = sym (List·getD-eq-default l 65535 h)
+
+  pub given-cont : k < length l → getD l k 0 ≡ getD l k 4294967295
+  given-cont h = getD-any l k 0 4294967295 h
+
+  pub given-no-cont : length l ≤ k → 4294967295 ≡ getD l k 4294967295
+  given-no-cont h = sym (List·getD-eq-default l 4294967295 h)
+
+pub ruleset giving = (needs, given-target, given-none, given-cont, given-no-cont)
+
+module _ (e : Bool) (ts cs : List ℕ) (k : ℕ) {x g : ℕ} (t : x ≡ getD ts k 65535) (n : g ≡ x) where
+  pub goal-dead : e ≡ true → g ≡ 65535 → NONE ≡ goalOf e ts cs k
+  goal-dead h d = rw (h, eq-eqb (getD ts k 65535) 65535 (sym (n ∙ t) ∙ d))
+
+  pub goal-cont : {r : ℕ} → e ≡ true → (g ≡ 65535 → ⊥) → r ≡ getD cs k 4294967295 → r ≡ goalOf e ts cs k
+  goal-cont h d c = rw (h, ne-eqb (getD ts k 65535) 65535 (λ i. d (n ∙ t ∙ i))) c
+
+  pub goal-target : e ≡ false → g ≡ goalOf e ts cs k
+  goal-target h = rw h (n ∙ t)
+
+pub ruleset aiming = (needs, goal-dead, goal-cont, goal-target)
+
+-- The refusals behind the records
+
+module _ (d t c : ℕ) where
+  pub other-targets : (t ≡ d → ⊥) → true ≡ differs d t c
+  other-targets n = rw (ne-eqb t d n)
+
+  pub other-conts : t ≡ d → (c ≡ d → ⊥) → true ≡ differs d t c
+  other-conts x n = rw (eq-eqb t d x, ne-eqb c d n)
+
+  pub as-many : t ≡ d → c ≡ d → false ≡ differs d t c
+  as-many x y = rw (eq-eqb t d x, eq-eqb c d y)
+
+  pub refusal-is : (s : Bool) {o : Bool} {r : ℕ} → o ≡ differs d t c → r ≡ refusalOf o s → r ≡ refusalOf (differs d t c) s
+  refusal-is s b n = n ∙ ap (λ (o : Bool). refusalOf o s) b
+
+pub ruleset counting = (needs, other-targets, other-conts, as-many, refusal-is)

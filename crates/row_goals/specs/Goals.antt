@@ -1,0 +1,30 @@
+-- What row building asks of one segment or of one call. One definition for both kinds of row, e says which: an escape row, or one of targets. 65535 is the dead
+-- state. Assumes nothing.
+use Prim.Native.Nat.{ℕ}
+use mathlib.Core.Bool.{Bool, true, false, _&&_}
+use mathlib.Core.List.{List}
+use lib.Dec.{eqb}
+use lib.ListN.{getD}
+use Rattle.refusal.specs.Said.{ROOM, TARGETS}
+use Rattle.refusal.specs.Lists.{pick}
+use Rattle.refusal.specs.Fixed.{NONE}
+
+-- what a place was given: a target; or, for an escape row, a continuation, and none where the target is dead. Behind the last place nothing was given
+abbrev pub goalOf : Bool → List ℕ → List ℕ → ℕ → ℕ
+goalOf e targets conts k = pick e (pick (eqb (getD targets k 65535) 65535) NONE (getD conts k NONE)) (getD targets k 65535)
+
+-- the goal of a segment that is left out
+abbrev pub noGoal : Bool → ℕ
+noGoal e = pick e NONE 65535
+
+-- where a row begins: "parts at 128"
+abbrev pub firstOf : Bool → ℕ
+firstOf e = pick e 0 128
+
+-- "targets or continuations differ in number from distinct masks": d is how many distinct masks there are
+abbrev pub differs : ℕ → ℕ → ℕ → Bool
+differs d targets conts = pick (eqb targets d && eqb conts d) false true
+
+-- "TARGETS, ROOM for these": the refusal's number, or 0
+abbrev pub refusalOf : Bool → Bool → ℕ
+refusalOf other short = pick other TARGETS (pick short ROOM 0)
