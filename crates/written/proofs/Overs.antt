@@ -65,7 +65,10 @@ pub lay-zeros : (n : ℕ) (xs : List ℕ) → length xs ≤ n → lay 0 xs (zero
 unfolding lay
 lay-zeros n xs h = over-zeros n xs h
 
--- The loop that makes all numbers 0: those before n are 0, the others as they were
+-- The loops that make all numbers 0: those before n are 0 in l, the others as they were in d
+
+abbrev pub Clearing : List ℕ → ℕ → List ℕ → Type 0
+Clearing d n l = (l ≡ replicate n 0 ++ drop n d) × (length l ≡ length d) × (n ≤ length d)
 
 pub clear-turn : (n : ℕ) (d : List ℕ) {l : List ℕ} → n < length l → length l ≡ length d → l ≡ replicate n 0 ++ drop n d → set l n 0 ≡ replicate (n + 1) 0 ++ drop (n + 1) d
 clear-turn n d h k e = ap (λ (l : List ℕ). set l n 0) e ∙ fill-more n 0 d (omega arith)
@@ -101,7 +104,10 @@ clear-rest n d {l} h k i z =
 pub part-length : (n k : ℕ) (l : List ℕ) {e : List ℕ} → e ≡ zeros (length (midOf n k l)) → length (putMid n k l e) ≡ length l
 part-length n k l {e} z = same-len-mid n k l e (ap length z ∙ length-replicate (length (midOf n k l)) 0)
 
--- The loop that reads whether all numbers are 0
+-- The loops that read whether all numbers are 0: where the bits of those before n are, so are the numbers
+
+abbrev pub Reading : List ℕ → ℕ → ℕ → Type 0
+Reading d all n = (all ≡ 0 → d ≡ replicate n 0 ++ drop n d) × (n ≤ length d)
 
 or-zero : (a b : ℕ) → bitOr a b ≡ 0 → (a ≡ 0) × (b ≡ 0)
 or-zero a b h = (omega (arith, or-add-and a b, and-le-r a b, h), omega (arith, or-add-and a b, and-le-l a b, h))

@@ -1,15 +1,12 @@
 -- The targets before i are 0, the others as they were. The measure is how many are left.
-use Prim.Native.Nat.{_-_, _≤_}
-use mathlib.Core.Path.{_≡_}
-use mathlib.Core.List.{_++_}
-use lib.ListN.{length, drop, replicate}
-use Rattle.written.proofs.Overs.{clearing}
+use Prim.Native.Nat.{_-_}
+use lib.ListN.{length}
+use Rattle.written.proofs.Overs.{Clearing, clearing}
 use Rattle.rows.proofs.clear_targets.Statement.{statement}
 use Rattle.rows.proofs.clear_targets.Tie as tie
 
 abbrev Inv-loop : tie.InvT-loop
-Inv-loop targets₀ i₀ targets i =
-    (targets ≡ replicate i 0 ++ drop i targets₀) × (length targets ≡ length targets₀) × (i ≤ length targets₀)
+Inv-loop targets₀ i₀ targets i = Clearing targets₀ i targets
 
 abbrev μ-loop : tie.MeasureT-loop
 μ-loop targets₀ i₀ targets i = length targets₀ - i

@@ -1,15 +1,12 @@
 -- The numbers before `at` are 0, the others as they were. The measure is how many are left.
-use Prim.Native.Nat.{_-_, _≤_}
-use mathlib.Core.Path.{_≡_}
-use mathlib.Core.List.{_++_}
-use lib.ListN.{length, drop, replicate}
-use Rattle.written.proofs.Overs.{clearing}
+use Prim.Native.Nat.{_-_}
+use lib.ListN.{length}
+use Rattle.written.proofs.Overs.{Clearing, clearing}
 use Rattle.written.proofs.clear_blocks.Statement.{statement}
 use Rattle.written.proofs.clear_blocks.Tie as tie
 
 abbrev Inv-loop : tie.InvT-loop
-Inv-loop numbers₀ at₀ numbers at =
-    (numbers ≡ replicate at 0 ++ drop at numbers₀) × (length numbers ≡ length numbers₀) × (at ≤ length numbers₀)
+Inv-loop numbers₀ at₀ numbers at = Clearing numbers₀ at numbers
 
 abbrev μ-loop : tie.MeasureT-loop
 μ-loop numbers₀ at₀ numbers at = length numbers₀ - at

@@ -1,15 +1,12 @@
 -- The words before `from` are 0, the others as they were. The measure is how many are left.
-use Prim.Native.Nat.{_-_, _≤_}
-use mathlib.Core.Path.{_≡_}
-use mathlib.Core.List.{_++_}
-use lib.ListN.{length, drop, replicate}
-use Rattle.written.proofs.Overs.{clearing}
+use Prim.Native.Nat.{_-_}
+use lib.ListN.{length}
+use Rattle.written.proofs.Overs.{Clearing, clearing}
 use Rattle.written.proofs.clear_words.Statement.{statement}
 use Rattle.written.proofs.clear_words.Tie as tie
 
 abbrev Inv-loop : tie.InvT-loop
-Inv-loop words₀ from₀ words from =
-    (words ≡ replicate from 0 ++ drop from words₀) × (length words ≡ length words₀) × (from ≤ length words₀)
+Inv-loop words₀ from₀ words from = Clearing words₀ from words
 
 abbrev μ-loop : tie.MeasureT-loop
 μ-loop words₀ from₀ words from = length words₀ - from

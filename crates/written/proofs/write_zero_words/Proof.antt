@@ -1,15 +1,12 @@
 -- The words before k are 0, the others as they were. The measure is how many are left.
-use Prim.Native.Nat.{_-_, _≤_}
-use mathlib.Core.Path.{_≡_}
-use mathlib.Core.List.{_++_}
-use lib.ListN.{length, drop, replicate}
-use Rattle.written.proofs.Overs.{clearing}
+use Prim.Native.Nat.{_-_}
+use lib.ListN.{length}
+use Rattle.written.proofs.Overs.{Clearing, clearing}
 use Rattle.written.proofs.write_zero_words.Statement.{statement}
 use Rattle.written.proofs.write_zero_words.Tie as tie
 
 abbrev Inv-loop : tie.InvT-loop
-Inv-loop words₀ k₀ words k =
-    (words ≡ replicate k 0 ++ drop k words₀) × (length words ≡ length words₀) × (k ≤ length words₀)
+Inv-loop words₀ k₀ words k = Clearing words₀ k words
 
 abbrev μ-loop : tie.MeasureT-loop
 μ-loop words₀ k₀ words k = length words₀ - k

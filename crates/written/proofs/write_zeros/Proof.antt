@@ -1,15 +1,12 @@
 -- The numbers before i are 0, the others as they were. The measure is how many are left.
-use Prim.Native.Nat.{_-_, _≤_}
-use mathlib.Core.Path.{_≡_}
-use mathlib.Core.List.{_++_}
-use lib.ListN.{length, drop, replicate}
-use Rattle.written.proofs.Overs.{clearing}
+use Prim.Native.Nat.{_-_}
+use lib.ListN.{length}
+use Rattle.written.proofs.Overs.{Clearing, clearing}
 use Rattle.written.proofs.write_zeros.Statement.{statement}
 use Rattle.written.proofs.write_zeros.Tie as tie
 
 abbrev Inv-loop : tie.InvT-loop
-Inv-loop numbers₀ i₀ numbers i =
-    (numbers ≡ replicate i 0 ++ drop i numbers₀) × (length numbers ≡ length numbers₀) × (i ≤ length numbers₀)
+Inv-loop numbers₀ i₀ numbers i = Clearing numbers₀ i numbers
 
 abbrev μ-loop : tie.MeasureT-loop
 μ-loop numbers₀ i₀ numbers i = length numbers₀ - i
