@@ -22,7 +22,7 @@ use Rattle.room_read.specs.declared.Found.the-variants.{At}
 use Rattle.room_read.specs.Room.{stateAt, ofState}
 use Rattle.room_read.proofs.Records.{held, listed-in-room, there, absent, outside, ofstate}
 use Rattle.judge.specs.Judge.{isTable, tableIn}
-use Rattle.encode.proofs.Writing.{found-table, unfound-table}
+use Rattle.judge.proofs.Tables.{found-table, unfound-table}
 use Rattle.targets.specs.declared.Target.{Target}
 use Rattle.targets.specs.declared.Target.the-variants.{To}
 use Rattle.targets.specs.Targets as targeting

@@ -17,13 +17,13 @@ use Rattle.room_read.specs.declared.Found.the-variants as place
 use Rattle.room_read.specs.Room.{stateAt, follow}
 use Rattle.codec.specs.Decode.{keptFrom, roomOf}
 use Rattle.judge.specs.Judge.{wordsPart, isTable}
+use Rattle.judge.proofs.Tables.{laid, accepted-table, own-words}
 use Rattle.table.specs.Table.{Table, Range, Fields, All, wordsOf, each, rangeWords}
 use Rattle.table.specs.Rules.{Rules, Good, Searchable}
 use Rattle.table.specs.Whole.{Fit}
 use Rattle.table.specs.Places.{sectionsOf, brokenOf}
 use Rattle.table.proofs.Codec.{on, at-head}
 use Rattle.table.proofs.Obeyed.{obeys-accepted}
-use Rattle.roundtrip.proofs.RoundTrip.{laid, accepted-table, own-words}
 use Rattle.lookup_laws.specs.Looks.{goalAt, stateOf, charTargetOf}
 use Rattle.lookup_laws.proofs.Stands.{threes, inside, all-nth}
 use Rattle.lookup_laws.proofs.Held.{Held, held}

@@ -4,7 +4,6 @@ use native.Mathlib.Numerals.{add-one}
 use native.Mathlib.Omega.{arith}
 use mathlib.Core.Path.{_≡_, refl, sym, ap, _∙_}
 use mathlib.Core.List.{List, [], _++_, append-nil}
-use mathlib.Core.Bool.{Bool, true, false, _&&_}
 use borrow.Author.Needs.{needs}
 use borrow.Author.Tests.{lt-ltb, le-ltb}
 use borrow.Rule.Slice.PartMut.{midOf, putMid}
@@ -12,18 +11,16 @@ use lib.ListN.{length, getD, take, drop, set, length-take, length-drop, drop-of-
 use lib.Seq.{drop-cons, drop-drop, take-all, take-add, take-length, length-take-le}
 use Rattle.refusal.specs.declared.Refusal.{Refusal}
 use Rattle.refusal.specs.Said.{Said, ok, no, NOT-TABLE, ROOM}
-use Rattle.refusal.specs.Lists.{pick, sameList}
 use Rattle.layout.specs.declared.Sections.{Sections}
 use Rattle.layout.specs.declared.Sections.the-variants.{Found, Unfound}
-use Rattle.layout.specs.Layout.{unfound, layoutOf}
+use Rattle.layout.specs.Layout.{layoutOf}
 use Rattle.layout.proofs.Found.{found}
 use Rattle.written.specs.Over.{over, lay, zeros, padded}
 use Rattle.written.proofs.Overs.{lay-none, lay-put, lay-lay, lay-zeros}
-use Rattle.limits.specs.Limits.{laidOut}
 use Rattle.room.proofs.Sizes.{ordered}
-use Rattle.codec.specs.Decode.{decodedFrom, roomOf}
 use Rattle.limits.proofs.Laws.{kept}
-use Rattle.judge.specs.Judge.{wordsPart, accepted, isTable, tableIn}
+use Rattle.judge.specs.Judge.{wordsPart, tableIn}
+use Rattle.judge.proofs.Tables.{table-laid, found-table, unfound-table}
 use Rattle.encode.specs.declared.Encoded.{Encoded}
 use Rattle.encode.specs.declared.Encoded.the-variants.{Words, Refused}
 use Rattle.encode.specs.Encode.{Spans, said, refused, encodeOf, outOf}
@@ -122,41 +119,10 @@ pub ruleset spanning = (needs, tag-spans, modes-spans, states-spans, runs-spans,
 
 -- What encoding is left with
 
--- a room that is a table has sections
-table-laid : (d : List ℕ) → isTable d ≡ true → (m s r a v x e c : ℕ) × (laidOut (wordsPart d) (length d) ≡ Found m s r a v x e c)
-unfolding isTable decodedFrom
-table-laid d h = go (laidOut (wordsPart d) (length d)) refl h
-  where
-    go : (o : Sections) → laidOut (wordsPart d) (length d) ≡ o → (accepted (decodedFrom (wordsPart d) o) && sameList (roomOf (wordsPart d) (length d)) d) ≡ true
-        → (m s r a v x e c : ℕ) × (laidOut (wordsPart d) (length d) ≡ Found m s r a v x e c)
-    go (Found m s r a v x e c) i k = (m, s, r, a, v, x, e, c, i)
-    go (Unfound o) i k = let z : _≡_ {A = ℕ} 0 1 = cc in absurd (omega arith)
-
--- the sections of a room are found exactly where it is a table
 module _ (d : List ℕ) where
-  pub found-table : {m s r a v x e c : ℕ} → tableIn d ≡ Found m s r a v x e c → (isTable d ≡ true) × (layoutOf (wordsPart d) ≡ Found m s r a v x e c)
-  unfolding tableIn
-  found-table {m} {s} {r} {a} {v} {x} {e} {c} h = go (isTable d) refl h
-    where
-      go : (b : Bool) → isTable d ≡ b → pick b (layoutOf (wordsPart d)) (unfound NOT-TABLE 0) ≡ Found m s r a v x e c → (isTable d ≡ true) × (layoutOf (wordsPart d) ≡ Found m s r a v x e c)
-      go true i k = (i, k)
-      go false i k = let z : _≡_ {A = ℕ} 0 1 = cc in absurd (omega arith)
-
-  pub unfound-table : {o : Refusal} → tableIn d ≡ Unfound o → isTable d ≡ false
-  unfolding tableIn
-  unfound-table {o} h = go (isTable d) refl h
-    where
-      go : (b : Bool) → isTable d ≡ b → pick b (layoutOf (wordsPart d)) (unfound NOT-TABLE 0) ≡ Unfound o → isTable d ≡ false
-      go true i k =
-          let t = table-laid d i in
-          let l = kept (wordsPart d) (length d) (t .8) .laid in
-          let z : _≡_ {A = ℕ} 0 1 = cc in
-          absurd (omega arith)
-      go false i k = i
-
   -- the room of a table, and its word count
   table-kept : {m s r a v x e c : ℕ} → tableIn d ≡ Found m s r a v x e c → (16384 ≤ length d) × (length (wordsPart d) ≤ 8192)
-  table-kept h = let t = table-laid d (found-table h .0) in let k = kept (wordsPart d) (length d) (t .8) in (k .room, k .limit)
+  table-kept h = let t = table-laid d (found-table d h .0) in let k = kept (wordsPart d) (length d) (t .8) in (k .room, k .limit)
 
   count-is : {m s r a v x e c : ℕ} → tableIn d ≡ Found m s r a v x e c → getD d 0 0 ≡ length (wordsPart d)
   unfolding wordsPart

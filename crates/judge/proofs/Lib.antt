@@ -2,3 +2,4 @@ pub mod Comparing
 pub mod Stood
 pub mod Plain
 pub mod Filled
+pub mod Tables

@@ -18,6 +18,7 @@ use Rattle.codec.specs.declared.Decoded.the-variants.{Table, Refused}
 use Rattle.codec.specs.Decode.{decodeOf, roomOf}
 use Rattle.codec.specs.Decode as decoding
 use Rattle.judge.specs.Judge.{wordsPart, accepted, isTable}
+use Rattle.judge.proofs.Tables.{own-words}
 use Rattle.encode.specs.declared.Encoded.{Encoded}
 use Rattle.encode.specs.Encode.{said, encodeOf, outOf}
 use Rattle.table.specs.Table.{wordsOf}
@@ -25,7 +26,7 @@ use Rattle.table.specs.Whole.{Fit}
 use Rattle.roundtrip.specs.Normal.{normal}
 use Rattle.roundtrip.specs.Trip.{Trip, Left}
 use Rattle.roundtrip.proofs.Normal.{normal-size}
-use Rattle.roundtrip.proofs.RoundTrip.{round-trip, own-words, left-held}
+use Rattle.roundtrip.proofs.RoundTrip.{round-trip, left-held}
 use Rattle.lexer_dfa.specs.Demands.{DecodeAnswers, EncodeAnswers, RoundTrip, Leaves, EncodedBy}
 
 -- There and back

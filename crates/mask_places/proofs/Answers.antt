@@ -25,7 +25,7 @@ use Rattle.masks.specs.declared.Places.{Places}
 use Rattle.masks.specs.declared.Places.the-variants as place
 use Rattle.masks.specs.Masks.{wordsFor, masksAt, matrix, flat, distinct, distinctOf, placesIn, placesOf}
 use Rattle.mask_places.specs.Walk.{chunks, Gathered, Spaced, Zeroed, Cleared}
-use Rattle.masks.specs.Answer.{said, told, parseMasks, parseDistinct, parsePlaces, counted, foundIn, masksIn, placedIn, Matrix, Distinct, Placed}
+use Rattle.masks.specs.Answer.{said, told, parseMasks, parseDistinct, parsePlaces, counted, foundIn, masksIn, placedIn, Matrix, Placed}
 use Rattle.masks.proofs.Answers.{few-from, length-mask, length-masks, roomy, short}
 use Rattle.mask_places.proofs.Distincts.{Wide, length-flat, chunks-flat, wide-distinct, few-distinct, length-places}
 

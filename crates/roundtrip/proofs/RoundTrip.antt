@@ -4,26 +4,19 @@ use Prim.Native.Nat.{ℕ, _+_, _-_, _≤_, _<_}
 use native.Mathlib.Omega.{arith}
 use mathlib.Core.Path.{_≡_, refl, sym, ap, subst, _∙_}
 use mathlib.Core.List.{List, [], _∷_, _++_, map, append-assoc}
-use mathlib.Core.Bool.{Bool, true, false}
-use lib.Dec.{eqb}
-use lib.ListN.{length, getD, take, length-map, length-append, length-replicate}
+use mathlib.Core.Bool.{true}
+use lib.ListN.{length, take, length-map, length-append, length-replicate}
 use lib.Seq.{take-at}
-use borrow.Author.Tests.{le-ltb, eqb-true, eq-eqb}
-use Rattle.refusal.specs.Said.{INDEX}
-use Rattle.refusal.proofs.Lists.{and-split, same-equal, equal-same}
-use Rattle.refusal.specs.Lists.{pick, sameList}
-use Rattle.layout.specs.declared.Sections.{Sections}
-use Rattle.layout.specs.declared.Sections.the-variants.{Found, Unfound}
-use Rattle.rules.specs.Rules.{broken}
+use borrow.Author.Tests.{le-ltb, eq-eqb}
+use Rattle.refusal.proofs.Lists.{equal-same}
 use Rattle.written.specs.Over.{zeros, padded}
-use Rattle.limits.specs.Limits.{laidOut}
 use Rattle.room.specs.Room.{roomFor, numbers}
 use Rattle.layout.proofs.Found.{found}
 use Rattle.room.proofs.Sizes.{numbers-length}
 use Rattle.codec.specs.declared.Decoded.the-variants as decoded
 use Rattle.codec.specs.Decode.{judged, decodedFrom, decodeOf, keptFrom, roomOf}
-use Rattle.limits.proofs.Laws.{kept}
 use Rattle.judge.specs.Judge.{wordsPart, accepted, isTable}
+use Rattle.judge.proofs.Tables.{laid, accepted-table}
 use Rattle.encode.specs.declared.Encoded.the-variants.{Words}
 use Rattle.encode.specs.Encode.{encodeOf, outOf}
 use Rattle.table.specs.Table.{Table, Fields, All, wordsOf, runWords, wideWords, acceptWords, escapeWords, continuationWords}
@@ -32,7 +25,7 @@ use Rattle.table.specs.Places.{runsPlace, widePlace, acceptsPlace, escapesPlace
 use Rattle.table.specs.Rules.{Rules, Good, NoneOr, Searchable, Numbered, RefersBelow}
 use Rattle.table.proofs.Codec.{at-head}
 use Rattle.table.proofs.Placed.{modes-stand, states-stand}
-use Rattle.table.proofs.Obeyed.{obeys-accepted, accepted-obeys}
+use Rattle.table.proofs.Obeyed.{obeys-accepted}
 use Rattle.roundtrip.specs.Normal.{normalAccept, normalConfig, normalContinuation, normal}
 use Rattle.roundtrip.specs.Trip.{Trip, Left}
 use Rattle.roundtrip.proofs.Normal.{normal-fields, normal-size, offsets, numbersOf, numbers-are, same-numbers}
@@ -66,20 +59,16 @@ normal-rules t r =
 -- A table that obeys the rules, decoded
 
 module _ (t : Table) (h : Fields t) (r : Rules t) (l : length (wordsOf t) ≤ 8192) (n : ℕ) (room : 16384 ≤ n) where
-  pub laid : laidOut (wordsOf t) n ≡ sectionsOf t
-  unfolding laidOut
-  laid = rw (le-ltb n 16384 room, le-ltb 8192 (length (wordsOf t)) l) (obeys-accepted t h l r .0)
-
   table-decoded : decodeOf (wordsOf t) n ≡ decoded.Table (length (t .modes)) (length (t .states)) (length (wordsOf t))
   unfolding decodedFrom judged sectionsOf
   table-decoded =
       let m = at-head (modes-stand t) in
       let s = at-head (states-stand t) in
-      rw (laid, eq-eqb (brokenOf t) 0 (obeys-accepted t h l r .1), m, s)
+      rw (laid t h r l n room, eq-eqb (brokenOf t) 0 (obeys-accepted t h l r .1), m, s)
 
   table-room : roomOf (wordsOf t) n ≡ padded n (numbersOf t)
   unfolding keptFrom roomFor sectionsOf
-  table-room = rw (laid, eq-eqb (brokenOf t) 0 (obeys-accepted t h l r .1)) (ap (padded n) (numbers-are t h))
+  table-room = rw (laid t h r l n room, eq-eqb (brokenOf t) 0 (obeys-accepted t h l r .1)) (ap (padded n) (numbers-are t h))
 
 -- The room of a table's numbers
 
@@ -138,36 +127,12 @@ module _ (t : Table) (h : Fields t) (r : Rules t) (l : length (wordsOf t) ≤ 81
   table-trip : Trip (wordsOf t) n
   table-trip = record { table = t; fields = h; rules = r; words = refl; held = room-held; part = room-part; encoded = room-encoded; out = room-out; again = decoded-again; room = room-again }
 
--- what is accepted is the words of a table that obeys the rules, within the limits
-pub accepted-table : (w : List ℕ) (n : ℕ) → Fit w → accepted (decodeOf w n) ≡ true → (t : Table) × Fields t × Rules t × (w ≡ wordsOf t) × (length w ≤ 8192) × (16384 ≤ n)
-unfolding decodedFrom judged
-accepted-table w n f h = go (laidOut w n) refl h
-  where
-    go : (o : Sections) → laidOut w n ≡ o → accepted (decodedFrom w o) ≡ true → (t : Table) × Fields t × Rules t × (w ≡ wordsOf t) × (length w ≤ 8192) × (16384 ≤ n)
-    go (Unfound o) i e = let z : _≡_ {A = ℕ} 0 1 = cc in absurd (omega arith)
-    go (Found m s r a v x y c) i e = unbroken (eqb (broken w m s r a v x y c) 0) refl e
-      where
-        unbroken : (b : Bool) → eqb (broken w m s r a v x y c) 0 ≡ b → accepted (pick b (decoded.Table (getD w m 0) (getD w s 0) (length w)) (decoded.Refused (record { number = INDEX; place = broken w m s r a v x y c }))) ≡ true
-            → (t : Table) × Fields t × Rules t × (w ≡ wordsOf t) × (length w ≤ 8192) × (16384 ≤ n)
-        unbroken false u e = let z : _≡_ {A = ℕ} 0 1 = cc in absurd (omega arith)
-        unbroken true u e =
-            let k = kept w n i in
-            let t = accepted-obeys w m s r a v x y c f (k .limit) (k .laid) (eqb-true (broken w m s r a v x y c) 0 u) in
-            (t .0, t .1, t .2, t .3, k .limit, k .room)
-
 -- "Encode after decode gives the words with nonzero flags made 1; decoding those gives the same room"
 pub round-trip : (w : List ℕ) (n : ℕ) → Fit w → accepted (decodeOf w n) ≡ true → Trip w n
 round-trip w n f h =
     let t = accepted-table w n f h in
     subst (λ u. Trip u n) (sym (t .3)) (table-trip (t .0) (t .1) (t .2) (subst (λ u. length u ≤ 8192) (t .3) (t .4)) n (t .5))
 
--- every room that encoding accepts is what decoding leaves for some accepted words: its own
-pub own-words : (d : List ℕ) → isTable d ≡ true → Left (wordsPart d) d
-unfolding isTable
-own-words d h =
-    let s = and-split (accepted (decodeOf (wordsPart d) (length d))) (sameList (roomOf (wordsPart d) (length d)) d) h in
-    (s .0, sym (same-equal (roomOf (wordsPart d) (length d)) d (s .1)))
-
--- and no room that decoding leaves for accepted words is refused
+-- no room that decoding leaves for accepted words is refused
 pub left-held : (w d : List ℕ) → Fit w → Left w d → isTable d ≡ true
 left-held w d f (h, e) = subst (λ u. isTable u ≡ true) (sym e) (round-trip w (length d) f h .held)
