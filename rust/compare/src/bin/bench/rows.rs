@@ -84,7 +84,7 @@ fn build(list: &[Transition], name: &str, calls: usize) {
     compare(&format!("build_rows {name}, {count} segments"), calls, rust, ours);
 }
 
-/// What the calls have to write whatever the list: the zeros, by the C library's `memset`.
+/// What the calls have to read or write whatever the list; zeros are written by the C library's `memset`.
 fn zeros() {
     let mut segments = vec![1_u32; SEGMENT_NUMBERS];
     let mut masks = vec![1_u64; MASK_WORDS];
@@ -96,15 +96,35 @@ fn zeros() {
         black_box(&mut masks).fill(0);
     });
     let mut distinct = vec![1_u64; MASK_WORDS];
-    alone("zeros of the six buffers of a row call alone", calls, |_| {
+    // What all six take, turn by turn with the original's whole row call at 8 intervals.
+    let list = spread(8, 4);
+    let theirs = transitions(&list);
+    let masks_of_list = RowBuilder::new().distinct_masks(&lists::bytes(&list)).map(Iterator::count);
+    let (targets, continuations) =
+        lists::given(&mut Seeded::new(82), masks_of_list.expect("a list within the limits"));
+    let rust = |_| rust_rows(black_box(&theirs), black_box(&targets), black_box(&continuations));
+    compare("the six buffers read, 16 bytes at a time", calls, rust, |_| {
+        let numbers = numbers::bits(black_box(&segments)) | numbers::bits(black_box(&rows));
+        u64::from(numbers) | words::bits(black_box(&masks)) | words::bits(black_box(&distinct))
+    });
+    #[cfg(target_arch = "x86_64")]
+    if is_x86_feature_detected!("avx512f") {
+        compare("the six buffers read, 64 bytes at a time", calls, rust, |_| {
+            // SAFETY: the processor has what the functions are compiled for.
+            unsafe {
+                let numbers =
+                    numbers::wide_bits(black_box(&segments)) | numbers::wide_bits(black_box(&rows));
+                let masks =
+                    words::wide_bits(black_box(&masks)) | words::wide_bits(black_box(&distinct));
+                u64::from(numbers) | masks
+            }
+        });
+    }
+    compare("the six buffers written", calls, rust, |_| {
         black_box(&mut segments).fill(0);
         black_box(&mut masks).fill(0);
         black_box(&mut distinct).fill(0);
         black_box(&mut rows).fill(0);
-    });
-    alone("reading of the six buffers alone", calls, |_| {
-        let numbers = bits_u32(black_box(&segments)) | bits_u32(black_box(&rows));
-        u64::from(numbers) | bits_u64(black_box(&masks)) | bits_u64(black_box(&distinct))
     });
     // A list that is refused at its first byte costs a row call just these, and the call.
     let mut ascii = [0; 128];
@@ -122,28 +142,40 @@ fn zeros() {
     });
 }
 
-/// The bits of all numbers together, read as wide as the processor can: a call that leaves zeros in a
-/// buffer of whatever numbers has to read each of them, or to write it.
-macro_rules! bits {
-    ($name:ident, $wide:ident, $number:ty) => {
-        fn $name(numbers: &[$number]) -> $number {
-            #[cfg(target_arch = "x86_64")]
-            if is_x86_feature_detected!("avx512f") {
-                // SAFETY: the processor has what the function is compiled for.
-                return unsafe { $wide(numbers) };
+// The bits of all numbers together, eight loads beside each other: no faster way to read them was found.
+// A call that leaves zeros in a buffer of whatever numbers has to read each of them, or to write it.
+macro_rules! reading {
+    ($module:ident, $number:ty) => {
+        mod $module {
+            #[inline(always)]
+            fn joined<const LANES: usize>(numbers: &[$number]) -> $number {
+                let (parts, rest) = numbers.as_chunks::<LANES>();
+                let mut bits = [0; LANES];
+                for part in parts {
+                    for (bits, number) in bits.iter_mut().zip(part) {
+                        *bits |= number;
+                    }
+                }
+                bits.iter().chain(rest).fold(0, |bits, number| bits | number)
             }
-            numbers.iter().fold(0, |bits, number| bits | number)
-        }
 
-        #[cfg(target_arch = "x86_64")]
-        #[target_feature(enable = "avx512f")]
-        fn $wide(numbers: &[$number]) -> $number {
-            numbers.iter().fold(0, |bits, number| bits | number)
+            /// By what every processor of the kind has.
+            #[inline(never)]
+            pub fn bits(numbers: &[$number]) -> $number {
+                joined::<{ 8 * 16 / size_of::<$number>() }>(numbers)
+            }
+
+            /// By the widest loads that there are.
+            #[cfg(target_arch = "x86_64")]
+            #[target_feature(enable = "avx512f")]
+            pub fn wide_bits(numbers: &[$number]) -> $number {
+                joined::<{ 8 * 64 / size_of::<$number>() }>(numbers)
+            }
         }
     };
 }
-bits!(bits_u32, wide_bits_u32, u32);
-bits!(bits_u64, wide_bits_u64, u64);
+reading!(numbers, u32);
+reading!(words, u64);
 
 /// Rows that stand in their pool, asked for in seeded order.
 pub fn pools() {
