@@ -8,7 +8,7 @@ ghost use Rattle.written.specs.Over.{Put};
 ghost use Rattle.room.specs.Room.{each};
 ghost use Rattle.codec.specs.Decode.{said};
 ghost use Rattle.tableread.specs.Line.{spaced, lineWith, lineOf};
-use lexer_dfa::Decoded;
+use codec::Decoded;
 
 // The most bytes that a line has are 66: three numbers of 20 digits, each behind a space, a word of two letters and the end.
 pub(crate) const LONGEST: usize = 66;

@@ -21,7 +21,7 @@ ghost use Rattle.io.specs.Counts.{Counts};
 ghost use Rattle.tableshow.specs.Page.{stateText, modeText, tableText, refusalText};
 
 // At most 2,730 ranges stand in the rows of a state, of at most 55 bytes each with the break of their line.
-const PAGE: usize = 262144;
+const PAGE: usize = 163840;
 
 fn table_page(modes: u32, states: u32, words: usize, page: &mut [u8]) -> usize
     ensures { λ r. ⌜ Counts r (now (page .exit)) ⌝ }
