@@ -1,10 +1,11 @@
 // The classes of bytes and of ranges for C and Rust: a slice passes as pointer and length, an answer comes back as a struct.
 // A number of 0 says accepted; else it is document 01's refusal, with its place, and every other field is 0.
 ghost use mathlib.Core.Path.{_≡_};
-ghost use Rattle.range_class.specs.Class.{byteClass, byteNumber, classNumber, classSaid};
+ghost use Rattle.byte_class.specs.Byte.{byteClass, byteNumber};
+ghost use Rattle.range_class.specs.Class.{classNumber, classSaid};
 ghost use Rattle.class_c.specs.Answers.{classInC};
+use byte_class::ByteClass;
 use range_class::AsciiRangeClass;
-use range_class::ByteClass;
 use range_class::RangeClass;
 
 // The class of ranges: 0 whitespace, 1 number, 2 identifier, 3 other.
@@ -35,7 +36,7 @@ fn byte_number(class: ByteClass) -> u32
 pub extern "C" fn lexer_dfa_class_of_byte(byte: u8) -> u32
     ensures { λ r. ⌜ r ≡ byteNumber (byteClass byte) ⌝ }
 {
-    byte_number(range_class::class_of_byte(byte))
+    byte_number(byte_class::class_of_byte(byte))
 }
 
 fn class_number(class: AsciiRangeClass) -> u32

@@ -7,7 +7,7 @@ use Rattle.refusal.specs.Said.{ok, no}
 use Rattle.refusal.specs.Lists as lists
 use Rattle.refusal.specs.Lists.{some, before, sameList, firstEqual}
 use Rattle.ascii_range.specs.Ranges.{joined, rangesFrom, upToFour, inRanges}
-use Rattle.range_class.specs.Class.{upFrom}
+use Rattle.byte_class.specs.Byte.{upFrom}
 use Rattle.ascii_run.specs.Shape.{held}
 use Rattle.ascii_run.specs.Classify.{exitsFrom, byRanges, byExits, classified}
 use Rattle.ascii_run.specs.Scan.{stops, scanSaid}

@@ -3,19 +3,20 @@
 use mathlib.Core.Path.{refl, sym, ap, _∙_}
 use Rattle.ascii_range.proofs.none.Reads as none
 use Rattle.range_words.proofs.from_run.Reads as from-run
-use Rattle.range_words.proofs.packed_words.Reads as packed-words
+use Rattle.range_pack.proofs.packed_words.Reads as packed-words
 use Rattle.range_scan.proofs.scan_scalar.Reads as scan-scalar
 use Rattle.self_loops.proofs.next_exit.Reads as next-exit
 use Rattle.self_loops.proofs.from_self_loops.Reads as from-self-loops
-use Rattle.range_class.proofs.class_of_byte.Reads as class-of-byte
 use Rattle.range_class.proofs.class.Reads as class
-use Rattle.range_class.proofs.Classes.{byte-one, said-one}
+use Rattle.range_class.proofs.Classes.{said-one}
+use Rattle.byte_class.proofs.class_of_byte.Reads as class-of-byte
+use Rattle.byte_class.proofs.Arms.{byte-one}
 use Rattle.ascii_run.proofs.refuse.Reads as refuse
 use Rattle.ascii_run.proofs.serialized_words.Reads as serialized-words
 use Rattle.ascii_run.proofs.Answers.{given}
 use Rattle.run_read.proofs.read_serialized.Reads as read-serialized
 use Rattle.run_read.proofs.read_alone.Reads as read-alone
-use Rattle.run_read.proofs.short_answer.Reads as short-answer
+use Rattle.short_run.proofs.short_answer.Reads as short-answer
 use Rattle.run_write.proofs.write_serialized.Reads as write-serialized
 use Rattle.run_classify.proofs.classify.Reads as classify
 use Rattle.run_scan.proofs.scan.Reads as scan
@@ -68,6 +69,8 @@ none-unique κs a x y e f p q = p ∙ sym q
 pub from-run-unique : Determines from-run.Learnt
 from-run-unique κs a x y e f p q = p ∙ sym q
 
+-- range_pack
+
 pub packed-words-unique : Determines packed-words.Learnt
 packed-words-unique κs a x y e f p q = p ∙ sym q
 
@@ -86,11 +89,13 @@ from-self-loops-unique κs a x y e f p q = p ∙ sym q
 
 -- range_class
 
-pub class-of-byte-unique : Determines class-of-byte.Learnt
-class-of-byte-unique κs a x y e f p q = byte-one x y (p ∙ sym q)
-
 pub class-unique : Determines class.Learnt
 class-unique κs a x y e f p q = said-one x y (p ∙ sym q)
+
+-- byte_class
+
+pub class-of-byte-unique : Determines class-of-byte.Learnt
+class-of-byte-unique κs a x y e f p q = byte-one x y (p ∙ sym q)
 
 -- ascii_run
 
@@ -107,6 +112,8 @@ read-serialized-unique κs a x y e f p q = given _ p ∙ sym (given _ q)
 
 pub read-alone-unique : Determines read-alone.Learnt
 read-alone-unique κs a x y e f p q = given _ p ∙ sym (given _ q)
+
+-- short_run
 
 pub short-answer-unique : Determines short-answer.Learnt
 short-answer-unique κs a x y e f p q = p ∙ sym q

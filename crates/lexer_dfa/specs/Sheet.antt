@@ -8,7 +8,7 @@ use Rattle.refusal.specs.Fixed.{tag, NONE}
 use Rattle.refusal.specs.Lists.{pick}
 use Rattle.ascii_range.specs.declared.AsciiRange.{AsciiRange}
 use Rattle.ascii_range.specs.Ranges.{range, inRanges}
-use Rattle.range_class.specs.Class.{upFrom}
+use Rattle.byte_class.specs.Byte.{upFrom}
 use Rattle.ascii_run.specs.declared.RunWords.{RunWords}
 use Rattle.ascii_run.specs.Shape.{Got, run, refused, gotSaid, shape}
 use Rattle.ascii_run.specs.Classify.{classified}

@@ -3,10 +3,11 @@ use Prim.Native.Nat.{ℕ}
 use mathlib.Core.Bool.{Bool, true, false, _&&_, _||_}
 use mathlib.Core.List.{List}
 use Rattle.refusal.specs.Lists.{pick, some, every}
-use Rattle.range_class.specs.Class.{isDigit, isLetter, isWhitespace, inNumber, inIdentifier}
+use Rattle.byte_class.specs.Byte.{isDigit, isLetter, isWhitespace}
+use Rattle.range_class.specs.Class.{inNumber, inIdentifier}
 use Rattle.range_class.specs.declared.Seen.{Seen}
-use Rattle.range_class.specs.declared.ByteClass.{ByteClass}
-use Rattle.range_class.specs.declared.ByteClass.the-variants.{Digit, HexLetter, Letter, Whitespace, Underscore, Quote, Dollar, Other}
+use Rattle.byte_class.specs.declared.ByteClass.{ByteClass}
+use Rattle.byte_class.specs.declared.ByteClass.the-variants.{Digit, HexLetter, Letter, Whitespace, Underscore, Quote, Dollar, Other}
 use Rattle.range_class.specs.declared.AsciiRangeClass.{AsciiRangeClass}
 use Rattle.range_class.specs.declared.AsciiRangeClass.the-variants as ranges
 

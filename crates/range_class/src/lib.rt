@@ -1,26 +1,15 @@
-// The class of a byte, and the class of the ranges that the three words of a kind-5 run hold.
+// The class of the ranges that the three words of a kind-5 run hold, by what their bytes are together. The class of a byte is in `byte_class`.
 ghost use mathlib.Core.Path.{_≡_};
 ghost use Rattle.ascii_range.specs.Ranges.{listed};
-ghost use Rattle.range_class.specs.Class.{byteNumber, byteClass, bytesIn, bytesOf, said, classSaid};
+ghost use Rattle.range_class.specs.Class.{bytesIn, bytesOf, said, classSaid};
 ghost use Rattle.range_class.specs.Seen.{factsOf, both, seenIn, decided};
 use ascii_range::AsciiRange;
 use ascii_range::AsciiRanges;
 use ascii_range::PackedRanges;
+use byte_class::ByteClass;
 use refusal::FIELD;
 use refusal::MAX_RANGES;
 use refusal::Refusal;
-
-// What a byte is by its value. Hex letters are A to F and a to f, and `Letter` is every other letter.
-pub enum ByteClass {
-    Digit,
-    HexLetter,
-    Letter,
-    Whitespace,
-    Underscore,
-    Quote,
-    Dollar,
-    Other,
-}
 
 // What the bytes of ranges are, all together.
 pub enum AsciiRangeClass {
@@ -34,22 +23,6 @@ pub enum AsciiRangeClass {
 pub enum RangeClass {
     Class(AsciiRangeClass),
     Refused(Refusal),
-}
-
-// A decision by the byte's value.
-pub fn class_of_byte(byte: u8) -> ByteClass
-    ensures { λ r. ⌜ byteNumber r ≡ byteNumber (byteClass byte) ⌝ }
-{
-    match byte {
-        b'0'..=b'9' => ByteClass::Digit,
-        b'A'..=b'F' | b'a'..=b'f' => ByteClass::HexLetter,
-        b'G'..=b'Z' | b'g'..=b'z' => ByteClass::Letter,
-        9 | 10 | 12 | 13 | 32 => ByteClass::Whitespace,
-        b'_' => ByteClass::Underscore,
-        b'\'' => ByteClass::Quote,
-        b'$' => ByteClass::Dollar,
-        _ => ByteClass::Other,
-    }
 }
 
 // What was seen of some bytes: whether one is a digit or a letter, and whether all are whitespace, of a number, of an identifier.
@@ -145,7 +118,7 @@ fn see_range(seen: Seen, range: AsciiRange) -> Seen
     let mut seen = seen;
     let high = range.high;
     for byte in range.low..=high {
-        seen = both(seen, facts(class_of_byte(byte)));
+        seen = both(seen, facts(byte_class::class_of_byte(byte)));
     }
     seen
 }

@@ -1,8 +1,8 @@
-// The words of ranges: the ranges that two words hold, if they are a good list, and the words that hold ranges.
+// The words of ranges: the ranges that two words hold, if they are a good list. The words that hold ranges are in `range_pack`.
 ghost use mathlib.Core.Path.{_≡_};
 ghost use Prim.Native.Nat.{_≤_, _<_};
 ghost use lib.ListN.{drop, take};
-ghost use Rattle.ascii_range.specs.Ranges.{ordered, isZero, unused, checked, rangeIn, unpacked, halfOf, packedOf, rangesOfRun, follows};
+ghost use Rattle.ascii_range.specs.Ranges.{ordered, isZero, unused, checked, rangeIn, unpacked, rangesOfRun, follows};
 use ascii_range::AsciiRange;
 use ascii_range::AsciiRanges;
 use ascii_range::PackedRanges;
@@ -115,21 +115,4 @@ pub fn from_run(kind: u32, words: PackedRanges) -> AsciiRanges
         return ascii_range::none();
     }
     from_packed((kind / 256) as u8, words)
-}
-
-fn half_of(range: AsciiRange) -> u32
-    ensures { λ r. ⌜ (r ≡ halfOf range) × (r < 65536) ⌝ }
-{
-    wide(range.low) + 256 * wide(range.high)
-}
-
-// The two words that hold the ranges.
-pub fn packed_words(ranges: AsciiRanges) -> PackedRanges
-    ensures { λ r. ⌜ r ≡ packedOf (ranges .ranges) ⌝ }
-{
-    let rs = ranges.ranges;
-    PackedRanges {
-        first: half_of(rs[0]) + 65536 * half_of(rs[1]),
-        second: half_of(rs[2]) + 65536 * half_of(rs[3]),
-    }
 }

@@ -38,7 +38,7 @@ pub fn write_serialized(run: Run) -> RunWords
         }
         AsciiRun::Ranges => {
             let ranges = run.ranges;
-            let packed = range_words::packed_words(ranges);
+            let packed = range_pack::packed_words(ranges);
             RunWords {
                 length: 3,
                 first: 5 + 256 * wide(ranges.count),

@@ -1,10 +1,10 @@
--- `range_class::class_of_byte` meets its contract: each arm is a number that it names, or a range whose rule is one computed test.
+-- `byte_class::class_of_byte` meets its contract: each arm is a number that it names, or a range whose rule is one computed test.
 -- Assumes nothing.
 use Rattle.refusal.specs.Lists.{every}
-use Rattle.range_class.specs.Class.{byteClass, upFrom}
-use Rattle.range_class.proofs.Classes.{arms}
-use Rattle.range_class.proofs.class_of_byte.Statement.{statement}
-use Rattle.range_class.proofs.class_of_byte.Tie as tie
+use Rattle.byte_class.specs.Byte.{byteClass, upFrom}
+use Rattle.byte_class.proofs.Arms.{arms}
+use Rattle.byte_class.proofs.class_of_byte.Statement.{statement}
+use Rattle.byte_class.proofs.class_of_byte.Tie as tie
 
 pub class-of-byte-spec : {M : Type 1} → statement M
 unfolding byteClass every upFrom

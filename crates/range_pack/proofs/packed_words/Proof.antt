@@ -1,7 +1,7 @@
 -- Each half of a word is a range.
 use borrow.Author.Needs.{needs}
-use Rattle.range_words.proofs.packed_words.Statement.{statement}
-use Rattle.range_words.proofs.packed_words.Tie as tie
+use Rattle.range_pack.proofs.packed_words.Statement.{statement}
+use Rattle.range_pack.proofs.packed_words.Tie as tie
 
 pub packed-words-spec : {M : Type 1} → statement M
 packed-words-spec =
