@@ -20,7 +20,7 @@ fn place_from(
     ensures { λ r. ⌜ r ≡ listedIn (now (room .entry)) start end (9 + words + runs + wides) i ⌝ }
 {
     let list = 9 + (words as usize) + (runs as usize) + (wides as usize);
-    room_read::listed_in(room, start, end as usize, list, i)
+    room_lists::listed_in(room, start, end as usize, list, i)
 }
 
 fn place_past(

@@ -36,7 +36,7 @@ fn place_from(
 {
     let end = 9 + (words as usize);
     let list = end + (runs as usize) + (wides as usize) + (accepts as usize) + (escapes as usize);
-    room_read::listed_in(room, start, end, list, i)
+    room_lists::listed_in(room, start, end, list, i)
 }
 
 fn place_past(

@@ -27,7 +27,7 @@ fn row_from(
     ensures { λ r. ⌜ r ≡ listedIn (now (room .entry)) start end (9 + words + runs + wides + accepts) row ⌝ }
 {
     let list = 9 + (words as usize) + (runs as usize) + (wides as usize) + (accepts as usize);
-    room_read::listed_in(room, start, end as usize, list, row)
+    room_lists::listed_in(room, start, end as usize, list, row)
 }
 
 fn row_past(

@@ -60,7 +60,7 @@ fn first_broken_row(
     if rule_ascii::ascii_targets_are_good(words, states, ascii_rows) {
         if rule_ranges::wide_rows_are_searchable(words, states, wide_rows) {
             if same_count(words, escape_rows, states) {
-                if rule_ranges::escape_rows_are_valid(words, escape_rows, continuations) {
+                if rule_escapes::escape_rows_are_valid(words, escape_rows, continuations) {
                     if rule_contexts::continuation_contexts_are_valid(words, continuations) {
                         return 0;
                     }

@@ -22,7 +22,8 @@ use Rattle.accepts.specs.Accept.{acceptOf}
 use Rattle.accepts.specs.Record as accepts
 use Rattle.continuations.specs.Continuation.{rowAt, searchRow, charContinuation, eofContinuation}
 use Rattle.configs.specs.Configs as configs
-use Rattle.state_run.specs.StateRun.{runPlace, runIn, runOf, asciiRun, scannedBy}
+use Rattle.run_places.specs.RunPlaces.{runPlace}
+use Rattle.state_run.specs.StateRun.{runIn, runOf, asciiRun, scannedBy}
 
 -- header; tag and modes; states; runs; one ascii row; one wide row; one accept; escape rows; one continuation; places; zeros
 abbrev room : List ℕ

@@ -47,8 +47,9 @@ use Rattle.rule_states.proofs.mode_starts_are_states.Reads as mode-starts-are-s
 use Rattle.rule_states.proofs.states_are_valid.Reads as states-are-valid
 use Rattle.rule_runs.proofs.runs_are_classified.Reads as runs-are-classified
 use Rattle.rule_ascii.proofs.ascii_targets_are_good.Reads as ascii-targets-are-good
+use Rattle.row_order.proofs.searchable.Reads as searchable
 use Rattle.rule_ranges.proofs.wide_rows_are_searchable.Reads as wide-rows-are-searchable
-use Rattle.rule_ranges.proofs.escape_rows_are_valid.Reads as escape-rows-are-valid
+use Rattle.rule_escapes.proofs.escape_rows_are_valid.Reads as escape-rows-are-valid
 use Rattle.rule_contexts.proofs.continuation_contexts_are_valid.Reads as continuation-contexts-are-valid
 use Rattle.index_rules.proofs.first_broken.Reads as first-broken
 use Rattle.room.specs.Room.{roomFor}
@@ -231,10 +232,17 @@ runs-are-classified-unique κs a x y e f p q = p ∙ sym q
 pub ascii-targets-are-good-unique : Determines ascii-targets-are-good.Learnt
 ascii-targets-are-good-unique κs a x y e f p q = p ∙ sym q
 
+-- row_order
+
+pub searchable-unique : Determines searchable.Learnt
+searchable-unique κs a x y e f p q = p ∙ sym q
+
 -- rule_ranges
 
 pub wide-rows-are-searchable-unique : Determines wide-rows-are-searchable.Learnt
 wide-rows-are-searchable-unique κs a x y e f p q = p ∙ sym q
+
+-- rule_escapes
 
 pub escape-rows-are-valid-unique : Determines escape-rows-are-valid.Learnt
 escape-rows-are-valid-unique κs a x y e f p q = p ∙ sym q

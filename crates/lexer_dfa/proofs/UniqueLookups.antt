@@ -5,8 +5,8 @@ use mathlib.Core.List.{List}
 use denote.Ref.{RefT}
 use Rattle.room_read.specs.Part.{PartOf}
 use Rattle.room_read.proofs.record_in.Reads as record-in
-use Rattle.room_read.proofs.listed_in.Reads as listed-in
 use Rattle.room_read.proofs.find_state.Reads as find-state
+use Rattle.room_lists.proofs.listed_in.Reads as listed-in
 use Rattle.row_search.proofs.search_row.Reads as search-row
 use Rattle.modes.proofs.mode_start.Reads as mode-start
 use Rattle.modes.proofs.state_count.Reads as state-count
@@ -38,7 +38,7 @@ use Rattle.configs.proofs.find_whole.Reads as find-whole
 use Rattle.configs.proofs.Laws as configs
 use Rattle.coverage.proofs.coverage.Reads as coverage
 use Rattle.coverage.proofs.Laws as covered
-use Rattle.state_run.proofs.find_run.Reads as find-run
+use Rattle.run_places.proofs.find_run.Reads as find-run
 use Rattle.state_run.proofs.ascii_run.Reads as ascii-run
 use Rattle.state_scan.proofs.scan_ascii_run.Reads as scan-ascii-run
 use Rattle.state_scan_length.proofs.scan_ascii_run_length.Reads as scan-ascii-run-length
@@ -51,11 +51,13 @@ use Rattle.unique.specs.Unique.{Determines, DeterminesPart, DeterminesBoth}
 pub record-in-unique : Determines record-in.Learnt
 record-in-unique κs a x y e f p q = p ∙ sym q
 
-pub listed-in-unique : Determines listed-in.Learnt
-listed-in-unique κs a x y e f p q = p ∙ sym q
-
 pub find-state-unique : Determines find-state.Learnt
 find-state-unique κs a x y e f p q = p ∙ sym q
+
+-- room_lists
+
+pub listed-in-unique : Determines listed-in.Learnt
+listed-in-unique κs a x y e f p q = p ∙ sym q
 
 -- row_search
 
@@ -141,7 +143,7 @@ continuation-configs-span-unique κs a x y e f p q = p ∙ sym q
 pub coverage-unique : Determines coverage.Learnt
 coverage-unique κs a x y e f p q = covered.said-one x y (p ∙ sym q)
 
--- state_run, state_scan, state_scan_length
+-- run_places, state_run, state_scan, state_scan_length
 
 pub find-run-unique : Determines find-run.Learnt
 find-run-unique κs a x y e f p q = p ∙ sym q

@@ -17,7 +17,8 @@ use Rattle.ascii_run.specs.Scan.{skipped, scanSaid}
 use Rattle.ascii_run.specs.Classify.{classification}
 use Rattle.room_read.specs.declared.Found.the-variants as place
 use Rattle.room_read.specs.Room.{follow}
-use Rattle.state_run.specs.StateRun.{runPlace, runIn, runOf, asciiRun, skippedBy, scannedBy}
+use Rattle.run_places.specs.RunPlaces.{runPlace}
+use Rattle.state_run.specs.StateRun.{runIn, runOf, asciiRun, skippedBy, scannedBy}
 use Rattle.table.specs.Table.{Table, Fields, RunFields, runWords}
 use Rattle.table.specs.Rules.{Rules, Numbered, rowOf}
 use Rattle.table.proofs.Codec.{At}

@@ -1,7 +1,7 @@
-// Finding a record in a room; the answer `Hit` is that of `row_search` above. The room may be of any length and hold any numbers: each call says whether what it follows is
-// there.
+// Finding a record of a fixed size in a room; one of a length of its own is found by `room_lists` above, and the answer `Hit` is that of `row_search`.
+// The room may be of any length and hold any numbers: each call says whether what it follows is there.
 ghost use mathlib.Core.Path.{_≡_};
-ghost use Rattle.room_read.specs.Room.{placed, recordIn, within, numbered, listedIn, stateAt};
+ghost use Rattle.room_read.specs.Room.{placed, recordIn, stateAt};
 
 // Where a record stands.
 pub enum Found {
@@ -45,45 +45,6 @@ pub fn record_in(room: &[u32], start: u32, end: u32, size: u32, i: u32) -> Found
     if start < end {
         if (end as usize) <= room.len() {
             return place(start, end, room[start as usize], size, i);
-        }
-    }
-    Found::Outside
-}
-
-// A place that lies in its section, behind the count.
-fn within(start: u32, end: usize, at: u32) -> Found
-    ensures { λ r. ⌜ r ≡ within start end at ⌝ }
-{
-    if start < at {
-        if (at as usize) < end {
-            return Found::At(at as usize);
-        }
-    }
-    Found::Outside
-}
-
-// The place that is number `i` of the list at `list`, if it lies in the section.
-fn place_in(room: &[u32], start: u32, end: usize, list: usize, i: u32) -> Found
-    ensures { λ r. ⌜ r ≡ numbered (now (room .entry)) start end list i ⌝ }
-{
-    if list < room.len() {
-        if list + (i as usize) < room.len() {
-            return within(start, end, room[list + (i as usize)]);
-        }
-    }
-    Found::Outside
-}
-
-// Record `i` of a section whose records vary in length, by its place in the list at `list`.
-pub fn listed_in(room: &[u32], start: u32, end: usize, list: usize, i: u32) -> Found
-    ensures { λ r. ⌜ r ≡ listedIn (now (room .entry)) start end list i ⌝ }
-{
-    if (start as usize) < end {
-        if end <= room.len() {
-            if i < room[start as usize] {
-                return place_in(room, start, end, list, i);
-            }
-            return Found::Absent;
         }
     }
     Found::Outside

@@ -8,7 +8,7 @@ use mathlib.Core.List.{List, [], _∷_}
 use lib.Dec.{ltb, eqb}
 use lib.ListN.{length, getD, take, length-take}
 use borrow.Author.Needs.{needs}
-use borrow.Author.Tests.{lt-ltb, le-ltb, ltb-true}
+use borrow.Author.Tests.{ltb-true}
 use Rattle.refusal.specs.declared.Refusal.{Refusal}
 use Rattle.refusal.specs.Said.{Said, ok, no}
 use Rattle.ascii_range.specs.declared.AsciiRanges.{AsciiRanges}
@@ -23,12 +23,10 @@ use Rattle.room_read.specs.declared.Found.{Found}
 use Rattle.room_read.specs.declared.Found.the-variants.{At, Absent, Outside}
 use Rattle.room_read.specs.Room.{follow}
 use Rattle.room_read.proofs.Records.{held, listed-in-room}
+use Rattle.run_places.specs.RunPlaces.{runPlace}
 use Rattle.state_run.specs.declared.StateScan.{StateScan}
 use Rattle.state_run.specs.declared.StateScan.the-variants.{NoRun, Skipped, NoAnswer}
-use Rattle.state_run.specs.StateRun.{runPlace, notTable, judged, gotOf, runIn, said}
-
--- by the tests on the way
-pub ruleset cases = (needs, lt-ltb, le-ltb)
+use Rattle.state_run.specs.StateRun.{notTable, judged, gotOf, runIn, said}
 
 -- a run is found only behind a header, in its section, which lies in the room
 run-lies : (w : List ℕ) (i : ℕ) {p : ℕ} → runPlace w i ≡ At p → (8 < length w) × (getD w 4 0 ≤ length w)

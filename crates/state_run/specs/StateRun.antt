@@ -1,25 +1,18 @@
 -- The run of a state, and the scan by it (document 01, "Lookups"). w is the room, s a state, bs the bytes of an input. Assumes nothing.
-use Prim.Native.Nat.{ℕ, _+_}
+use Prim.Native.Nat.{ℕ}
 use mathlib.Core.List.{List, [], _∷_}
-use lib.Dec.{ltb}
-use lib.ListN.{length, getD, take}
+use lib.ListN.{getD, take}
 use Rattle.refusal.specs.Said.{Said, ok, no, STATE, NOT-TABLE}
-use Rattle.refusal.specs.Lists.{pick}
 use Rattle.ascii_range.specs.declared.AsciiRanges.{AsciiRanges}
 use Rattle.ascii_run.specs.declared.Answered.{Answered}
 use Rattle.ascii_run.specs.declared.Answered.the-variants.{Ran, Refused}
 use Rattle.ascii_run.specs.Shape.{Got, run, refused, shape}
 use Rattle.ascii_run.specs.Words.{readAt}
 use Rattle.ascii_run.specs.Scan.{bit, skipped, scanSaid}
-use Rattle.room_read.specs.declared.Found.{Found}
-use Rattle.room_read.specs.declared.Found.the-variants.{Outside}
-use Rattle.room_read.specs.Room.{listedIn, stateAt, follow}
+use Rattle.room_read.specs.Room.{stateAt, follow}
+use Rattle.run_places.specs.RunPlaces.{runPlace}
 use Rattle.state_run.specs.declared.StateScan.{StateScan}
 use Rattle.state_run.specs.declared.StateScan.the-variants.{NoRun, Skipped, NoAnswer}
-
--- the places of the runs stand behind the words
-unfoldable pub runPlace : List ℕ → ℕ → Found
-runPlace w i = pick (ltb 8 (length w)) (listedIn w (getD w 3 0) (getD w 4 0) (9 + getD w 0 0) i) Outside
 
 abbrev pub notTable : Got
 notTable = refused NOT-TABLE 0

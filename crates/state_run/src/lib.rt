@@ -1,11 +1,10 @@
 // The run of a state. The room may be of any length and hold any numbers.
 // The answer `StateScan` is that of `state_scan_length` above.
 ghost use mathlib.Core.Path.{_≡_};
-ghost use Prim.Native.Nat.{_+_, _≤_};
+ghost use Prim.Native.Nat.{_≤_};
 ghost use lib.ListN.{length};
-ghost use Rattle.room_read.specs.Room.{listedIn};
 ghost use Rattle.ascii_run.specs.Shape.{Gives, refused};
-ghost use Rattle.state_run.specs.StateRun.{runPlace, judged, gotOf, runIn, runOf, asciiRun};
+ghost use Rattle.state_run.specs.StateRun.{judged, gotOf, runIn, runOf, asciiRun};
 use ascii_run::Answered;
 use ascii_run::RunAnswer;
 use refusal::NOT_TABLE;
@@ -27,22 +26,6 @@ fn refuse(number: u32) -> RunAnswer
         answer: Answered::Refused(Refusal { number, place: 0 }),
         ranges: ascii_range::none(),
     }
-}
-
-fn place_from(room: &[u32], words: u32, start: u32, end: u32, i: u32) -> Found
-    ensures { λ r. ⌜ r ≡ listedIn (now (room .entry)) start end (9 + words) i ⌝ }
-{
-    room_read::listed_in(room, start, end as usize, 9 + (words as usize), i)
-}
-
-// Where the run with a number stands.
-pub fn find_run(room: &[u32], i: u32) -> Found
-    ensures { λ r. ⌜ r ≡ runPlace (now (room .entry)) i ⌝ }
-{
-    if 8 < room.len() {
-        return place_from(room, room[0], room[3], room[4], i);
-    }
-    Found::Outside
 }
 
 // What reading refuses is no table.
@@ -68,7 +51,7 @@ fn read_run(room: &[u32], end: u32, at: usize) -> RunAnswer
 fn run_of(room: &[u32], i: u32) -> RunAnswer
     ensures { λ r. ⌜ Gives r (runOf (now (room .entry)) i) ⌝ }
 {
-    match find_run(room, i) {
+    match run_places::find_run(room, i) {
         Found::At(p) => read_run(room, room[4], p),
         Found::Absent => refuse(NOT_TABLE),
         Found::Outside => refuse(NOT_TABLE),

@@ -102,7 +102,7 @@ fn scan_run(room: &[u32], end: u32, at: usize, input: &[u8]) -> StateScan
 fn scan_of(room: &[u32], i: u32, input: &[u8]) -> StateScan
     ensures { λ r. ⌜ said r ≡ scannedBy (runOf (now (room .entry)) i) (now (input .entry)) ⌝ }
 {
-    match state_run::find_run(room, i) {
+    match run_places::find_run(room, i) {
         Found::At(p) => scan_run(room, room[4], p, input),
         Found::Absent => no_answer(NOT_TABLE),
         Found::Outside => no_answer(NOT_TABLE),

@@ -9,7 +9,7 @@ fn wide_row_from(room: &[u32], words: u32, runs: u32, start: u32, end: u32, row:
     ensures { λ r. ⌜ r ≡ listedIn (now (room .entry)) start end (9 + words + runs) row ⌝ }
 {
     let list = 9 + (words as usize) + (runs as usize);
-    room_read::listed_in(room, start, end as usize, list, row)
+    room_lists::listed_in(room, start, end as usize, list, row)
 }
 
 fn wide_row_past(room: &[u32], words: u32, runs: u32, start: u32, end: u32, row: u32) -> Found
