@@ -27,12 +27,12 @@ use Rattle.words.proofs.field.Reads as field
 use Rattle.words.proofs.left_from.Reads as left-from
 use Rattle.simple_words.proofs.read_mode.Reads as read-mode
 use Rattle.simple_words.proofs.read_state.Reads as read-state
-use Rattle.simple_words.proofs.read_run.Reads as read-run
-use Rattle.simple_words.proofs.read_ascii_row.Reads as read-ascii-row
-use Rattle.listed_words.proofs.read_wide_row.Reads as read-wide-row
+use Rattle.run_words.proofs.read_run.Reads as read-run
+use Rattle.run_words.proofs.read_ascii_row.Reads as read-ascii-row
 use Rattle.listed_words.proofs.read_accept.Reads as read-accept
 use Rattle.listed_words.proofs.read_escape_row.Reads as read-escape-row
 use Rattle.listed_words.proofs.read_config.Reads as read-config
+use Rattle.wide_words.proofs.read_wide_row.Reads as read-wide-row
 use Rattle.continuation_words.proofs.read_continuation.Reads as read-continuation
 use Rattle.records.proofs.read_record.Reads as read-record
 use Rattle.records.proofs.read_section.Reads as read-section
@@ -156,6 +156,8 @@ read-mode-unique κs a x y e f p q = p ∙ sym q
 pub read-state-unique : Determines read-state.Learnt
 read-state-unique κs a x y e f p q = p ∙ sym q
 
+-- run_words
+
 pub read-run-unique : Determines read-run.Learnt
 read-run-unique κs a x y e f p q = p ∙ sym q
 
@@ -163,9 +165,6 @@ pub read-ascii-row-unique : Determines read-ascii-row.Learnt
 read-ascii-row-unique κs a x y e f p q = p ∙ sym q
 
 -- listed_words
-
-pub read-wide-row-unique : Determines read-wide-row.Learnt
-read-wide-row-unique κs a x y e f p q = p ∙ sym q
 
 pub read-accept-unique : Determines read-accept.Learnt
 read-accept-unique κs a x y e f p q = p ∙ sym q
@@ -175,6 +174,11 @@ read-escape-row-unique κs a x y e f p q = p ∙ sym q
 
 pub read-config-unique : Determines read-config.Learnt
 read-config-unique κs a x y e f p q = p ∙ sym q
+
+-- wide_words
+
+pub read-wide-row-unique : Determines read-wide-row.Learnt
+read-wide-row-unique κs a x y e f p q = p ∙ sym q
 
 -- continuation_words
 

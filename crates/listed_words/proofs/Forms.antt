@@ -1,23 +1,13 @@
--- The records that hold a list in the form in which code tests: so many words are there, then a field is judged. Assumes nothing.
+-- The records that hold a list of triples in the form in which code tests: so many words are there, then the list is read. Assumes nothing.
 use Prim.Native.Nat.{ℕ, _+_}
-use native.Mathlib.Omega.{arith}
-use mathlib.Core.Path.{_≡_, _∙_}
-use mathlib.Core.List.{List, [], _∷_}
-use lib.Dec.{leb}
+use mathlib.Core.Path.{_≡_}
+use mathlib.Core.List.{List, []}
 use lib.ListN.{getD}
-use Rattle.refusal.specs.Said.{FIELD}
-use Rattle.refusal.specs.Lists.{pick}
 use Rattle.words.specs.declared.Place.the-variants.{Next}
-use Rattle.words.specs.Parse.{refused, fields, many}
-use Rattle.words.specs.Records.{any, target, rangeAt, tripleAt, acceptAt, escapeAt, configAt}
+use Rattle.words.specs.Parse.{fields, many}
+use Rattle.words.specs.Records.{tripleAt, acceptAt, escapeAt, configAt}
 use Rattle.words.proofs.Laws.{ahead}
-use Rattle.words.proofs.Forms.{heads, last, listed}
-
-pub range-form : (w : List ℕ) (at : ℕ) → rangeAt w at ≡ ahead w 3 at (λ q. pick (leb (getD w (at + 2) 0) 65535) (Next q) (refused FIELD (at + 2)))
-unfolding fields any target ahead
-range-form w at =
-    let e : at + 2 + 1 ≡ at + 3 = omega arith in
-    heads 1 (target ∷ []) w at ∙ last (λ p x. pick (leb x 65535) (Next (p + 1)) (refused FIELD p)) 2 w at ∙ (rw e)
+use Rattle.words.proofs.Forms.{heads, listed}
 
 pub triple-form : (w : List ℕ) (at : ℕ) → tripleAt w at ≡ ahead w 3 at Next
 unfolding fields

@@ -23,9 +23,9 @@ pub fn read_record(kind: Kind, words: &[u32], at: usize) -> Place
     match kind {
         Kind::Mode => simple_words::read_mode(words, at),
         Kind::State => simple_words::read_state(words, at),
-        Kind::AsciiRun => simple_words::read_run(words, at),
-        Kind::AsciiRow => simple_words::read_ascii_row(words, at),
-        Kind::WideRow => listed_words::read_wide_row(words, at),
+        Kind::AsciiRun => run_words::read_run(words, at),
+        Kind::AsciiRow => run_words::read_ascii_row(words, at),
+        Kind::WideRow => wide_words::read_wide_row(words, at),
         Kind::Accept => listed_words::read_accept(words, at),
         Kind::EscapeRow => listed_words::read_escape_row(words, at),
         Kind::Continuation => continuation_words::read_continuation(words, at),

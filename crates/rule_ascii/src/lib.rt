@@ -49,7 +49,7 @@ fn ascii_rows_are_good(words: &[u32], states: u32, count: u32, at: usize) -> boo
     let mut here = at;
     while 0 < left {
         if ascii_row_is_good(words, states, here) {
-            match simple_words::read_ascii_row(words, here) {
+            match run_words::read_ascii_row(words, here) {
                 Place::Next(p) => {
                     here = p;
                     left -= 1;

@@ -55,7 +55,7 @@ fn wide_records_are_searchable(words: &[u32], states: u32, count: u32, at: usize
     let mut here = at;
     while 0 < left {
         if wide_row_is_searchable(words, states, here) {
-            match listed_words::read_wide_row(words, here) {
+            match wide_words::read_wide_row(words, here) {
                 Place::Next(p) => {
                     here = p;
                     left -= 1;

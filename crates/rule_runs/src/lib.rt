@@ -89,7 +89,7 @@ fn run_records_are_classified(
     let mut here = at;
     while 0 < left {
         if run_is_classified(words, states, ascii_rows, state, here) {
-            match simple_words::read_run(words, here) {
+            match run_words::read_run(words, here) {
                 Place::Next(p) => {
                     here = p;
                     state += 1;

@@ -1,4 +1,4 @@
--- The records that hold no list in the form in which code tests: so many words are there, then a field is judged. Assumes nothing.
+-- Modes and states in the form in which code tests: so many words are there, then a field is judged. Assumes nothing.
 use Prim.Native.Nat.{ℕ, _+_}
 use native.Mathlib.Omega.{arith}
 use mathlib.Core.Path.{_≡_, refl, ap, _∙_}
@@ -10,8 +10,8 @@ use Rattle.refusal.specs.Fixed.{NONE}
 use Rattle.refusal.specs.Said.{FIELD}
 use Rattle.refusal.specs.Lists.{pick}
 use Rattle.words.specs.declared.Place.the-variants.{Next}
-use Rattle.words.specs.Parse.{short, refused, word, fields, block}
-use Rattle.words.specs.Records.{any, target, start, modeAt, stateAt, asciiAt}
+use Rattle.words.specs.Parse.{short, refused, word, fields}
+use Rattle.words.specs.Records.{any, target, start, modeAt, stateAt}
 use Rattle.words.proofs.Laws.{ahead}
 use Rattle.words.proofs.Forms.{single, heads, last}
 
@@ -33,7 +33,3 @@ state-form w at =
     heads 1 (target ∷ any ∷ []) w at
     ∙ last (λ p x. pick (leb x 65535) (word w (p + 1) (λ y. Next (p + 1 + 1))) (refused FIELD p)) 2 w at
     ∙ ap (λ o. ahead w 3 at (λ q. pick (leb (getD w (at + 2) 0) 65535) o (refused FIELD (at + 2)))) (fourth w at)
-
-pub ascii-form : (w : List ℕ) (at : ℕ) → asciiAt w at ≡ ahead w 64 at Next
-unfolding block ahead
-ascii-form w at = refl

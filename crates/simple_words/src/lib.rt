@@ -1,14 +1,10 @@
-// The readers of the records that hold no list: modes, states, runs and ASCII rows. Each says where reading goes on behind the record,
-// or refuses by number and place, in document 01's order of SHORT and FIELD.
+// The readers of the modes and of the states. Each says where reading goes on behind the record, or refuses by number and place, in document
+// 01's order of SHORT and FIELD.
 ghost use mathlib.Core.Path.{_≡_};
-ghost use Rattle.words.specs.Records.{modeAt, stateAt, runAt, asciiAt};
-use ascii_run::Answered;
+ghost use Rattle.words.specs.Records.{modeAt, stateAt};
 use refusal::NONE;
 use words::MAX_TARGET;
 use words::Place;
-
-// The words of an ASCII row: two symbols each.
-const ROW_WORDS: usize = 64;
 
 // A mode: start state, or NONE.
 pub fn read_mode(words: &[u32], at: usize) -> Place
@@ -43,26 +39,4 @@ pub fn read_state(words: &[u32], at: usize) -> Place
         return words::short(words);
     }
     Place::Next(at + 4)
-}
-
-// A run: one word, or three.
-pub fn read_run(words: &[u32], at: usize) -> Place
-    ensures { λ r. ⌜ r ≡ runAt (now (words .entry)) at ⌝ }
-{
-    let read = run_read::read_serialized(words, at);
-    let answer = read.answer;
-    match answer {
-        Answered::Ran(kind) => Place::Next(at + ascii_run::serialized_words(kind)),
-        Answered::Refused(r) => Place::Refused(r),
-    }
-}
-
-// An ASCII row.
-pub fn read_ascii_row(words: &[u32], at: usize) -> Place
-    ensures { λ r. ⌜ r ≡ asciiAt (now (words .entry)) at ⌝ }
-{
-    if words::left_from(words, at) < ROW_WORDS {
-        return words::short(words);
-    }
-    Place::Next(at + ROW_WORDS)
 }

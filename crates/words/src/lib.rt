@@ -1,6 +1,6 @@
 // The covered reader of a table's words: a slice and a number for the place. Each record of a table has a reader, which says where
 // reading goes on behind the record, or refuses by number and place. Here is what all readers share, and in specs/ what each record is;
-// the readers stand in `simple_words`, `listed_words` and `continuation_words`.
+// the readers stand in `simple_words`, `run_words`, `listed_words`, `wide_words` and `continuation_words`.
 ghost use mathlib.Core.Path.{_≡_};
 ghost use Prim.Native.Nat.{_-_};
 ghost use lib.ListN.{length};

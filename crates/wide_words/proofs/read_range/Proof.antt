@@ -1,8 +1,8 @@
 -- Each answer is the case of the record that the tests on the way say.
 use Rattle.words.proofs.Laws.{cases}
-use Rattle.listed_words.proofs.Forms.{range-form}
-use Rattle.listed_words.proofs.read_range.Statement.{statement}
-use Rattle.listed_words.proofs.read_range.Tie as tie
+use Rattle.wide_words.proofs.Forms.{range-form}
+use Rattle.wide_words.proofs.read_range.Statement.{statement}
+use Rattle.wide_words.proofs.read_range.Tie as tie
 
 pub read-range-spec : {M : Type 1} → statement M
 read-range-spec =

@@ -1,8 +1,8 @@
 -- Each answer is the case of the record that the tests on the way say.
 use Rattle.words.proofs.Laws.{cases}
-use Rattle.simple_words.proofs.Forms.{ascii-form}
-use Rattle.simple_words.proofs.read_ascii_row.Statement.{statement}
-use Rattle.simple_words.proofs.read_ascii_row.Tie as tie
+use Rattle.run_words.proofs.Forms.{ascii-form}
+use Rattle.run_words.proofs.read_ascii_row.Statement.{statement}
+use Rattle.run_words.proofs.read_ascii_row.Tie as tie
 
 pub read-ascii-row-spec : {M : Type 1} → statement M
 read-ascii-row-spec =

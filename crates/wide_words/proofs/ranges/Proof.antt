@@ -3,8 +3,8 @@ use mathlib.Core.Path.{_≡_}
 use Rattle.words.specs.Parse.{many}
 use Rattle.words.specs.Records.{rangeAt}
 use Rattle.words.proofs.Laws.{loop}
-use Rattle.listed_words.proofs.ranges.Statement.{statement}
-use Rattle.listed_words.proofs.ranges.Tie as tie
+use Rattle.wide_words.proofs.ranges.Statement.{statement}
+use Rattle.wide_words.proofs.ranges.Tie as tie
 
 abbrev Inv-loop : tie.InvT-loop
 Inv-loop words count at left₀ here₀ left here = many (rangeAt words) left here ≡ many (rangeAt words) count at
