@@ -1,18 +1,17 @@
--- The laws of all modes: where they lie, and how to go on with them. Assumes nothing.
+-- The laws of all modes: where they lie. Assumes nothing.
 use Prim.Native.Nat.{ℕ, _+_, _≤_}
 use native.Mathlib.Omega.{arith}
 use mathlib.Core.Path.{_≡_, refl, sym, _∙_}
 use mathlib.Core.Bool.{Bool, true, false}
-use mathlib.Core.List.{List, [], _∷_}
+use mathlib.Core.List.{List}
 use lib.Dec.{ltb, leb}
 use lib.ListN.{length, getD}
 use borrow.Author.Needs.{needs}
 use borrow.Author.Tests.{lt-ltb, le-ltb, le-leb, lt-leb, ltb-true, leb-true}
-use Rattle.refusal.specs.Said.{ok}
 use Rattle.refusal.specs.Lists.{pick, every}
 use Rattle.modes.specs.declared.Modes.{Modes}
 use Rattle.modes.specs.declared.Modes.the-variants.{Starts, Outside}
-use Rattle.modes.specs.Modes.{numbers, upTo, modesUpTo, ofModes}
+use Rattle.modes.specs.Modes.{numbers, upTo, modesUpTo}
 use Rattle.all_modes.proofs.Tests.{second-holds, second-fails}
 
 -- by the tests on the way
@@ -37,19 +36,3 @@ modes-lie w limit {at} {n} g e =
     let q : s + 1 ≡ at = cc in
     let r : k ≡ n = cc in
     omega (arith, leb-true end (length w) (h₃ .0), ltb-true (k + s) end (h₄ .0))
-
--- going on with the modes that were found
-module _ {A : Type 0} (w : List ℕ) (x : Modes) (f : List ℕ → A) (o : A) {got : Modes} where
-  pub modes-there : {at n : ℕ} {all : A} → got ≡ x → got ≡ Starts at n → all ≡ f (numbers w n at) → all ≡ ofModes w x f o
-  unfolding ofModes
-  modes-there g e h = h ∙ (rw (← g, e))
-
-  pub modes-outside : got ≡ x → got ≡ Outside → o ≡ ofModes w x f o
-  unfolding ofModes
-  modes-outside g e = rw (← g, e)
-
-pub flagged : (b c : Bool) → b ≡ c → ok (pick b 1 0 ∷ []) ≡ ok (pick c 1 0 ∷ [])
-flagged b c e = rw e
-
--- by what is found
-pub ruleset chain = (needs, modes-lie, modes-there, modes-outside, flagged)

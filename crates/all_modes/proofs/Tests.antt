@@ -3,12 +3,9 @@ use Prim.Native.Nat.{ℕ, _+_, _-_, _<_, _≤_}
 use mathlib.Core.Path.{_≡_, sym, _∙_}
 use mathlib.Core.Bool.{Bool, true, false}
 use mathlib.Core.List.{List}
-use lib.Dec.{leb}
 use lib.ListN.{getD}
 use borrow.Author.Needs.{needs}
-use borrow.Author.Tests.{le-leb, lt-leb}
-use Rattle.refusal.specs.Lists.{pick, some, every}
-use Rattle.modes.specs.Start.{compiled}
+use Rattle.refusal.specs.Lists.{pick, every}
 use Rattle.modes.specs.Modes.{numbers}
 use Rattle.modes.proofs.Numbers.{numbers-open, numbers-done}
 
@@ -26,20 +23,6 @@ module _ (p : ℕ → Bool) (w : List ℕ) (left here : ℕ) {all : Bool} (i : e
   unfolding every
   every-done h = rw (numbers-done w left here h) at i
 
--- a search for one that is a state
-module _ (w : List ℕ) (left here : ℕ) {all : Bool} (i : some compiled (numbers w left here) ≡ all) where
-  pub some-turn : 0 < left → 65535 < getD w here 0 → some compiled (numbers w (left - 1) (here + 1)) ≡ all
-  unfolding some
-  some-turn h g = let q : leb (getD w here 0) 65535 ≡ false = lt-leb _ _ g in rw (numbers-open w left here h, q) at i
-
-  pub some-stop : 0 < left → getD w here 0 ≤ 65535 → true ≡ all
-  unfolding some
-  some-stop h g = let q : leb (getD w here 0) 65535 ≡ true = le-leb _ _ g in rw (numbers-open w left here h, q) at i
-
-  pub some-done : left ≤ 0 → false ≡ all
-  unfolding some
-  some-done h = rw (numbers-done w left here h) at i
-
 -- a test that was made by a call, behind another
 module _ {A : Type 0} (b c : Bool) (x y : A) {t : Bool} where
   pub second-holds : t ≡ c → t ≡ true → b ≡ true → x ≡ pick b (pick c x y) y
@@ -48,4 +31,4 @@ module _ {A : Type 0} (b c : Bool) (x y : A) {t : Bool} where
   pub second-fails : t ≡ c → t ≡ false → b ≡ true → y ≡ pick b (pick c x y) y
   second-fails g e h = rw (h, ← g, e)
 
-pub ruleset testing = (needs, every-turn, every-stop, every-done, some-turn, some-stop, some-done)
+pub ruleset testing = (needs, every-turn, every-stop, every-done)

@@ -3,15 +3,15 @@
 use Prim.Native.Nat.{ℕ}
 use mathlib.Core.Path.{_≡_, refl, sym, ap₂, _∙_}
 use mathlib.Core.List.{List, [], _∷_}
-use Rattle.written.proofs.clear_words.Reads as clear-words
+use Rattle.written_words.proofs.clear_words.Reads as clear-words
 use Rattle.mask_places.proofs.place_masks.Reads as place-masks
 use Rattle.masks.proofs.Answers.{told-one}
-use Rattle.row_goals.proofs.touches.Reads as touches
-use Rattle.row_goals.proofs.unseen.Reads as unseen
-use Rattle.row_goals.proofs.seen_low.Reads as seen-low
 use Rattle.row_goals.proofs.target_at.Reads as target-at
 use Rattle.row_goals.proofs.goal_of.Reads as goal-of
 use Rattle.row_goals.proofs.refusal_for.Reads as refusal-for
+use Rattle.row_edges.proofs.touches.Reads as touches
+use Rattle.row_edges.proofs.unseen.Reads as unseen
+use Rattle.row_edges.proofs.seen_low.Reads as seen-low
 use Rattle.rows.proofs.build_rows.Reads as build-rows
 use Rattle.rows.proofs.Building.{said-one}
 use Rattle.unique.specs.Unique.{Determines, DeterminesBoth, DeterminesAll}
@@ -26,15 +26,6 @@ pub place-masks-unique : DeterminesAll (λ κs e. e .1 .0 .now ∷ e .1 .1 .0 .n
 place-masks-unique κs a x y e f p q =
     (told-one x y (p .says ∙ sym (q .says)), (and (p .low-high ∙ sym (q .low-high)) (and (p .each ∙ sym (q .each)) (and (p .once ∙ sym (q .once)) (and (p .leaves ∙ sym (q .leaves)) refl)))))
 
-pub touches-unique : Determines touches.Learnt
-touches-unique κs a x y e f p q = p ∙ sym q
-
-pub unseen-unique : Determines unseen.Learnt
-unseen-unique κs a x y e f p q = p ∙ sym q
-
-pub seen-low-unique : Determines seen-low.Learnt
-seen-low-unique κs a x y e f p q = p ∙ sym q
-
 pub target-at-unique : Determines target-at.Learnt
 target-at-unique κs a x y e f p q = p ∙ sym q
 
@@ -43,6 +34,15 @@ goal-of-unique κs a x y e f p q = p ∙ sym q
 
 pub refusal-for-unique : Determines refusal-for.Learnt
 refusal-for-unique κs a x y e f p q = p ∙ sym q
+
+pub touches-unique : Determines touches.Learnt
+touches-unique κs a x y e f p q = p ∙ sym q
+
+pub unseen-unique : Determines unseen.Learnt
+unseen-unique κs a x y e f p q = p ∙ sym q
+
+pub seen-low-unique : Determines seen-low.Learnt
+seen-low-unique κs a x y e f p q = p ∙ sym q
 
 pub build-rows-unique : DeterminesAll (λ κs e. e .1 .1 .1 .0 .now ∷ e .1 .1 .1 .1 .0 .now ∷ e .1 .1 .1 .1 .1 .0 .now ∷ e .1 .1 .1 .1 .1 .1 .0 .now ∷ e .1 .1 .1 .1 .1 .1 .1 .0 .now ∷ e .1 .1 .1 .1 .1 .1 .1 .1 .0 .now ∷ []) build-rows.Learnt
 build-rows-unique κs a x y e f p q = (

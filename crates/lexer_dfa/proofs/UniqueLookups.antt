@@ -11,7 +11,7 @@ use Rattle.row_search.proofs.search_row.Reads as search-row
 use Rattle.modes.proofs.mode_start.Reads as mode-start
 use Rattle.modes.proofs.state_count.Reads as state-count
 use Rattle.all_modes.proofs.find_modes.Reads as find-modes
-use Rattle.all_modes.proofs.has_compiled_modes.Reads as has-compiled-modes
+use Rattle.compiled_modes.proofs.has_compiled_modes.Reads as has-compiled-modes
 use Rattle.modes.proofs.Laws as modes
 use Rattle.mode_flags.proofs.compiled_mode_flags.Reads as compiled-mode-flags
 use Rattle.mode_flags.proofs.Lists as mode-lists
@@ -68,7 +68,7 @@ search-row-unique κs a x y e f p q = p ∙ sym q
 part-one : (room : RefT (List ℕ)) (from n : ℕ) (x y : RefT (List ℕ)) → PartOf room from n x → PartOf room from n y → (x .ptr ≡ y .ptr) × (x .now ≡ y .now)
 part-one room from n x y p q = (p .itself ∙ sym (q .itself), p .numbers ∙ sym (q .numbers))
 
--- modes, all_modes
+-- modes, all_modes, compiled_modes
 
 pub mode-start-unique : Determines mode-start.Learnt
 mode-start-unique κs a x y e f p q = modes.said-one x y (p ∙ sym q)

@@ -170,7 +170,7 @@ fn put_distinct(
 fn clear_both(words: &mut [u64], numbers: &mut [u32])
     ensures { λ _. ⌜ Zeroed (now (words .entry)) (now (words .exit)) (now (numbers .entry)) (now (numbers .exit)) ⌝ }
 {
-    written::clear_words(words);
+    written_words::clear_words(words);
     written::clear(numbers);
 }
 

@@ -432,7 +432,7 @@ fn fill_masks(list: &[u8], segments: &[u32], count: usize, masks: &mut [u64]) ->
 pub fn segment_mask_matrix(list: &[u8], segments: &mut [u32], masks: &mut [u64]) -> Masks
     ensures { λ r. ⌜ Matrix r (length (now (segments .entry))) (now (segments .exit)) (length (now (masks .entry))) (now (masks .exit)) (parseMasks (length (now (segments .entry))) (length (now (masks .entry))) (now (list .entry))) ⌝ }
 {
-    written::clear_words(masks);
+    written_words::clear_words(masks);
     if masks.len() < WORDS {
         written::clear(segments);
         return Masks::Refused(Refusal {

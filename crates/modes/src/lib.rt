@@ -1,5 +1,5 @@
 // Where a mode starts, and how many states there are. The room may be of any length and hold any numbers.
-// The answers `Modes` and `Compiled` are those of `all_modes` above.
+// The answers `Modes` and `Compiled` are those of `all_modes` and `compiled_modes` above.
 ghost use mathlib.Core.Path.{_≡_};
 ghost use Rattle.modes.specs.Start.{said, started, modeIn, modeAt, modeStart};
 ghost use Rattle.modes.specs.Modes.{countSaid, countIn, stateCount};

@@ -31,7 +31,7 @@ fn compiled_in_c(compiled: Compiled) -> CValue
 pub extern "C" fn lexer_dfa_has_compiled_modes(room: &[u32]) -> CValue
     ensures { λ r. ⌜ r ≡ valueInC (moding.hasCompiledModes (now (room .entry))) ⌝ }
 {
-    compiled_in_c(all_modes::has_compiled_modes(room))
+    compiled_in_c(compiled_modes::has_compiled_modes(room))
 }
 
 fn count_in_c(count: StateCount) -> CValue

@@ -13,14 +13,6 @@ use Rattle.refusal.specs.Fixed.{NONE}
 abbrev pub goalOf : Bool → List ℕ → List ℕ → ℕ → ℕ
 goalOf e targets conts k = pick e (pick (eqb (getD targets k 65535) 65535) NONE (getD conts k NONE)) (getD targets k 65535)
 
--- the goal of a segment that is left out
-abbrev pub noGoal : Bool → ℕ
-noGoal e = pick e NONE 65535
-
--- where a row begins: "parts at 128"
-abbrev pub firstOf : Bool → ℕ
-firstOf e = pick e 0 128
-
 -- "targets or continuations differ in number from distinct masks": d is how many distinct masks there are
 abbrev pub differs : ℕ → ℕ → ℕ → Bool
 differs d targets conts = pick (eqb targets d && eqb conts d) false true

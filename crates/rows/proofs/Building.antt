@@ -34,7 +34,8 @@ use Rattle.row_laws.proofs.Built as built
 use Rattle.row_laws.proofs.Searches.{sorted-weaken}
 use Rattle.row_laws.proofs.Parts.{length-values}
 use Rattle.lookup_laws.specs.Looks.{goalAt}
-use Rattle.row_goals.specs.Goals.{goalOf, noGoal, differs, refusalOf}
+use Rattle.row_goals.specs.Goals.{goalOf, differs, refusalOf}
+use Rattle.row_edges.specs.Edges.{noGoal}
 use Rattle.rows.specs.declared.Rows.{Rows}
 use Rattle.rows.specs.declared.Rows.the-variants.{Built, Refused}
 use Rattle.rows.specs.Answer.{said, Lent, lent, tooShort, withRows, parseRows, counted, asciiIn, wideIn, escapeIn, Builds}

@@ -17,7 +17,8 @@ use Rattle.written.proofs.Going.{Going, going-start, going-done, going-turn, pu
 use Rattle.row_laws.specs.Row.{Row, touches, joinTo, partFrom, numbers}
 use Rattle.row_laws.proofs.Joins.{touch-or-not}
 use Rattle.row_laws.proofs.Sizes.{length-joinTo, length-part}
-use Rattle.row_goals.specs.Goals.{goalOf, noGoal, firstOf}
+use Rattle.row_goals.specs.Goals.{goalOf}
+use Rattle.row_edges.specs.Edges.{noGoal, firstOf}
 use Rattle.rows.specs.Aimed.{rangeOf, aimed, living, seen, seenWords, joined}
 use Rattle.rows.proofs.Living.{few-living}
 use Rattle.rows.proofs.Aiming.{length-aimed, aimed-turn, aimed-done, aimed-all}

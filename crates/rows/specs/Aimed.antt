@@ -11,7 +11,8 @@ use Rattle.refusal.specs.Lists.{pick}
 use Rattle.table.specs.Table.{Range}
 use Rattle.written.specs.Over.{lay, Put}
 use Rattle.row_laws.specs.Row.{Row, DEAD, numbers, joinTo, partFrom, asciiPart}
-use Rattle.row_goals.specs.Goals.{goalOf, noGoal, firstOf}
+use Rattle.row_goals.specs.Goals.{goalOf}
+use Rattle.row_edges.specs.Edges.{noGoal, firstOf}
 use Rattle.rows.specs.declared.Rows.{Rows}
 use Rattle.rows.specs.Answer.{said}
 

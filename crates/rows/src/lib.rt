@@ -9,7 +9,7 @@ ghost use lib.ListN.{length, replicate};
 ghost use Rattle.refusal.specs.Lists.{pick};
 ghost use Rattle.written.specs.Over.{Put, zeros};
 ghost use Rattle.row_laws.specs.Row.{Sorted, numbers, asciiPart};
-ghost use Rattle.row_goals.specs.Goals.{noGoal};
+ghost use Rattle.row_edges.specs.Edges.{noGoal};
 ghost use Rattle.rows.specs.Answer.{lent, parseRows, Builds};
 ghost use Rattle.rows.specs.Aimed.{aimed, seenWords, joined, targetsOf, Split, Filled};
 use masks::Places;
@@ -46,10 +46,10 @@ fn put_unless(
     if grows {
         return n;
     }
-    if row_goals::unseen(escape, high, goal) {
+    if row_edges::unseen(escape, high, goal) {
         return n;
     }
-    put_range(out, n, row_goals::seen_low(escape, low), high, goal)
+    put_range(out, n, row_edges::seen_low(escape, low), high, goal)
 }
 
 fn first_low(grows: bool, low: u32, next: u32) -> u32
@@ -166,7 +166,7 @@ fn put_joined(
         let at = 2 * k;
         let next = segments[at];
         let value = row_goals::goal_of(targets, continuations, escape, places[k]);
-        let grows = row_goals::touches(high, goal, next, value);
+        let grows = row_edges::touches(high, goal, next, value);
         m = put_unless(grows, escape, out, m, low, high, goal);
         low = first_low(grows, low, next);
         high = segments[at + 1];
@@ -283,8 +283,8 @@ fn clear_masks(segments: &mut [u32], masks: &mut [u64], distinct: &mut [u64])
     ensures { λ _. ⌜ (now (segments .exit) ≡ zeros (length (now (segments .entry)))) × (now (masks .exit) ≡ zeros (length (now (masks .entry)))) × (now (distinct .exit) ≡ zeros (length (now (distinct .entry)))) ⌝ }
 {
     written::clear(segments);
-    written::clear_words(masks);
-    written::clear_words(distinct);
+    written_words::clear_words(masks);
+    written_words::clear_words(distinct);
 }
 
 // The rows of a list of transitions, each distinct mask of which was given a target and a continuation: 128 ascii targets, the wide row and the escape row,

@@ -5,7 +5,7 @@ ghost use lib.ListN.{length};
 ghost use Rattle.written.specs.Over.{zeros};
 
 // How many numbers are read at a time, and written where they are not all 0.
-const BLOCK: usize = 256;
+pub const BLOCK: usize = 256;
 
 // Up to so many numbers stay in the nearest cache, where to write costs less than to read.
 const SHORT: usize = 4096;
@@ -61,46 +61,4 @@ pub fn clear(numbers: &mut [u32])
     } else {
         write_zeros(numbers);
     }
-}
-
-// The same for 64-bit words, of which every buffer that is lent is long.
-fn word_bits(block: &[u64]) -> u64
-    ensures { λ r. ⌜ (r ≡ 0 → now (block .entry) ≡ zeros (length (now (block .entry)))) ⌝ }
-{
-    let mut all = 0;
-    let mut n = 0;
-    while n < block.len() {
-        all = all | block[n];
-        n += 1;
-    }
-    all
-}
-
-fn write_zero_words(words: &mut [u64])
-    ensures { λ _. ⌜ now (words .exit) ≡ zeros (length (now (words .entry))) ⌝ }
-{
-    let mut k = 0;
-    while k < words.len() {
-        words[k] = 0;
-        k += 1;
-    }
-}
-
-fn clear_word_block(block: &mut [u64])
-    ensures { λ _. ⌜ now (block .exit) ≡ zeros (length (now (block .entry))) ⌝ }
-{
-    if word_bits(block) != 0 {
-        write_zero_words(block);
-    }
-}
-
-pub fn clear_words(words: &mut [u64])
-    ensures { λ _. ⌜ now (words .exit) ≡ zeros (length (now (words .entry))) ⌝ }
-{
-    let mut from = 0;
-    while words.len() - from >= BLOCK {
-        clear_word_block(&mut words[from..from + BLOCK]);
-        from += BLOCK;
-    }
-    write_zero_words(&mut words[from..]);
 }

@@ -1,7 +1,7 @@
 -- Each answer goes on from what was found.
-use Rattle.all_modes.proofs.Laws.{chain}
-use Rattle.all_modes.proofs.has_compiled_modes.Statement.{statement}
-use Rattle.all_modes.proofs.has_compiled_modes.Tie as tie
+use Rattle.compiled_modes.proofs.Laws.{chain}
+use Rattle.compiled_modes.proofs.has_compiled_modes.Statement.{statement}
+use Rattle.compiled_modes.proofs.has_compiled_modes.Tie as tie
 
 pub has-compiled-modes-spec : {M : Type 1} → statement M
 has-compiled-modes-spec =

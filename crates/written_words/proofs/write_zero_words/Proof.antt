@@ -1,9 +1,9 @@
 -- The words before k are 0, the others as they were. The measure is how many are left.
 use Prim.Native.Nat.{_-_}
 use lib.ListN.{length}
 use Rattle.written.proofs.Overs.{Clearing, clearing}
-use Rattle.written.proofs.write_zero_words.Statement.{statement}
-use Rattle.written.proofs.write_zero_words.Tie as tie
+use Rattle.written_words.proofs.write_zero_words.Statement.{statement}
+use Rattle.written_words.proofs.write_zero_words.Tie as tie
 
 abbrev Inv-loop : tie.InvT-loop
 Inv-loop words₀ k₀ words k = Clearing words₀ k words

@@ -1,7 +1,7 @@
 -- A block whose bits are 0 stays as it is.
 use Rattle.written.proofs.Overs.{clearing}
-use Rattle.written.proofs.clear_word_block.Statement.{statement}
-use Rattle.written.proofs.clear_word_block.Tie as tie
+use Rattle.written_words.proofs.clear_word_block.Statement.{statement}
+use Rattle.written_words.proofs.clear_word_block.Tie as tie
 
 pub clear-word-block-spec : {M : Type 1} → statement M
 clear-word-block-spec =

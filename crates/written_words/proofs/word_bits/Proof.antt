@@ -1,9 +1,9 @@
 -- Where the bits so far are 0, so are the words before n. The measure is how many are left.
 use Prim.Native.Nat.{_-_}
 use lib.ListN.{length}
 use Rattle.written.proofs.Overs.{Reading, clearing}
-use Rattle.written.proofs.word_bits.Statement.{statement}
-use Rattle.written.proofs.word_bits.Tie as tie
+use Rattle.written_words.proofs.word_bits.Statement.{statement}
+use Rattle.written_words.proofs.word_bits.Tie as tie
 
 abbrev Inv-loop : tie.InvT-loop
 Inv-loop block all₀ n₀ all n = Reading block all n
