@@ -2,21 +2,32 @@
 use mathlib.Core.Path.{_≡_, refl, sym, ap, _∙_}
 use mathlib.Core.List.{List, [], _∷_}
 use mathlib.Core.Bool.{Bool, true, false}
-use Prim.Native.Nat.{ℕ, zero, suc, _+_, _-_, _<_, _≤_, max, min}
+use Prim.Native.Nat.{ℕ, zero, suc, _+_, _*_, _-_, _%_, _<_, _≤_, max, min}
 use native.Mathlib.Nat.{not-suc-le-zero}
 use native.Mathlib.Numerals.{sub-one, add-one}
 use native.Mathlib.Omega.{arith}
 use borrow.Author.Needs.{needs}
 use borrow.Author.Tests.{le-leb, lt-leb, lt-ltb, le-ltb, eq-eqb, ne-eqb}
-use lib.ListN.{length}
+use lib.ListN.{length, getD}
 use lib.Dec.{ltb}
 use Rattle.refusal.specs.Lists.{pick}
 use Rattle.transitions.specs.Transition.{origin, points, beyond, orderly}
 use Rattle.transitions.specs.Intervals.{Span, clip, clipped, clips, gaps}
-use Rattle.transitions.specs.Bytes.{numberAt, pairAt, pairsAt}
+use Rattle.transitions.specs.Bytes.{sizeAt, numberAt, pairAt, pairsAt}
 
 -- by the tests on the way
 pub ruleset cases = (needs, le-leb, lt-leb, eq-eqb, ne-eqb, lt-ltb, le-ltb)
+
+-- A number: two bytes, and two more
+
+pub number-of : (w : List ℕ) (p : ℕ) {a b : ℕ} → a ≡ sizeAt w p → b ≡ sizeAt w (p + 2) → (a + 65536 * b + origin) % 4294967296 ≡ numberAt w p
+unfolding sizeAt numberAt
+number-of w p {a} {b} e f =
+    let q : p + 2 + 1 ≡ p + 3 = omega arith in
+    let x : getD w (p + 2 + 1) 0 ≡ getD w (p + 3) 0 = ap (λ (i : ℕ). getD w i 0) q in
+    ap (λ (n : ℕ). (n + origin) % 4294967296) (omega (arith, x, e, f))
+
+pub ruleset numbers = (needs, number-of)
 
 -- One interval, or none
 

@@ -134,21 +134,21 @@ step-good (bad m) a b = let z : _≡_ {A = ℕ} 0 1 = cc in absurd (omega arith)
 
 module _ (w : List ℕ) (left at used : ℕ) {got : Step} {all : Said} (l : at < length w) (g : got ≡ stepOf (recordAt w at))
     (i : countedFrom (256 - left) used (parseFrom w left at used) ≡ all) where
-  pub rec-bad : {n : ℕ} → got ≡ Bad n → said (Refused (record { number = n; place = at })) ≡ all
+  pub rec-bad : {n : ℕ} (r : Transitions) → said r ≡ no n at → got ≡ Bad n → said r ≡ all
   unfolding countedFrom
-  rec-bad {n} e = rw (parse-bad w at used l left n (step-bad (recordAt w at) g e)) at i
+  rec-bad {n} r s e = s ∙ rw (parse-bad w at used l left n (step-bad (recordAt w at) g e)) at i
 
   module _ {next k : ℕ} (e : got ≡ Good next k) where
     here : Got (recordAt w at) next k
     here = step-good (recordAt w at) g e
 
-    pub rec-full : left ≡ 0 → said (Refused (record { number = LIMIT; place = at })) ≡ all
+    pub rec-full : (r : Transitions) → said r ≡ no LIMIT at → left ≡ 0 → said r ≡ all
     unfolding countedFrom
-    rec-full z = rw (parse-full w at used l left (here .t) next (here .is) z) at i
+    rec-full r s z = s ∙ rw (parse-full w at used l left (here .t) next (here .is) z) at i
 
-    pub rec-over : used ≤ 1024 → 1024 - used < k → said (Refused (record { number = LIMIT; place = at })) ≡ all
+    pub rec-over : (r : Transitions) → said r ≡ no LIMIT at → used ≤ 1024 → 1024 - used < k → said r ≡ all
     unfolding countedFrom
-    rec-over u h = rw (parse-over w at used l left (here .t) next (here .is) (omega (arith, here .size))) at i
+    rec-over r s u h = s ∙ rw (parse-over w at used l left (here .t) next (here .is) (omega (arith, here .size))) at i
 
     pub rec-turn : (left ≡ 0 → ⊥) → left ≤ 256 → used ≤ 1024 → k ≤ 1024 - used → countedFrom (256 - (left - 1)) (used + k) (parseFrom w (left - 1) next (used + k)) ≡ all
     rec-turn z m u h =

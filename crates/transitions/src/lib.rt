@@ -5,6 +5,7 @@ ghost use mathlib.Core.List.{[]};
 ghost use mathlib.Core.Bool.{true};
 ghost use Prim.Native.Nat.{suc, _+_, _*_, _≤_, _<_, max};
 ghost use lib.ListN.{length};
+ghost use Rattle.refusal.specs.Said.{no};
 ghost use Rattle.transitions.specs.Transition.{orderly, inOrder, origin};
 ghost use Rattle.transitions.specs.Intervals.{clip, clips, gaps, intervals};
 ghost use Rattle.transitions.specs.Bytes.{numberAt, sizeAt, pairsAt, shapeOf, transOf};
@@ -40,18 +41,6 @@ fn wide(x: u8) -> u64
     x as u64
 }
 
-// The key of the number whose four bytes start at p.
-fn number_at(list: &[u8], p: usize) -> u64
-    requires { ⌜ p + 4 ≤ length (now list) ⌝ }
-    ensures { λ r. ⌜ (r ≡ numberAt (now (list .entry)) p) × (r < 4294967296) ⌝ }
-{
-    let a = wide(list[p]);
-    let b = wide(list[p + 1]);
-    let c = wide(list[p + 2]);
-    let d = wide(list[p + 3]);
-    (a + 256 * b + 65536 * c + 16777216 * d + ORIGIN) % 4294967296
-}
-
 fn size_at(list: &[u8], p: usize) -> usize
     requires { ⌜ p + 2 ≤ length (now list) ⌝ }
     ensures { λ r. ⌜ (r ≡ sizeAt (now (list .entry)) p) × (r < 65536) ⌝ }
@@ -59,6 +48,16 @@ fn size_at(list: &[u8], p: usize) -> usize
     let a = wide(list[p]);
     let b = wide(list[p + 1]);
     (a + 256 * b) as usize
+}
+
+// The key of the number whose four bytes start at p.
+fn number_at(list: &[u8], p: usize) -> u64
+    requires { ⌜ p + 4 ≤ length (now list) ⌝ }
+    ensures { λ r. ⌜ (r ≡ numberAt (now (list .entry)) p) × (r < 4294967296) ⌝ }
+{
+    let low = size_at(list, p);
+    let high = size_at(list, p + 2);
+    ((low + 65536 * high) as u64 + ORIGIN) % 4294967296
 }
 
 // May a record of this tag have a value of this size?
@@ -246,6 +245,12 @@ fn read_record(list: &[u8], at: usize) -> Step
     Step::Bad(SHORT)
 }
 
+fn refuse(number: u32, place: usize) -> Transitions
+    ensures { λ r. ⌜ said r ≡ no number place ⌝ }
+{
+    Transitions::Refused(Refusal { number, place })
+}
+
 // How many transitions a list has, and how many intervals in all. A record is judged whole before the limits are.
 pub fn read_transitions(list: &[u8]) -> Transitions
     ensures { λ r. ⌜ said r ≡ counted (parse (now (list .entry))) ⌝ }
@@ -257,26 +262,17 @@ pub fn read_transitions(list: &[u8]) -> Transitions
         match read_record(list, at) {
             Step::Good { next, intervals } => {
                 if left == 0 {
-                    return Transitions::Refused(Refusal {
-                        number: LIMIT,
-                        place: at,
-                    });
+                    return refuse(LIMIT, at);
                 }
                 if MAX_INTERVALS - used < intervals {
-                    return Transitions::Refused(Refusal {
-                        number: LIMIT,
-                        place: at,
-                    });
+                    return refuse(LIMIT, at);
                 }
                 used += intervals;
                 left -= 1;
                 at = next;
             }
             Step::Bad(n) => {
-                return Transitions::Refused(Refusal {
-                    number: n,
-                    place: at,
-                });
+                return refuse(n, at);
             }
         }
     }
