@@ -58,24 +58,6 @@ fn wide(x: u8) -> u64
     x as u64
 }
 
-// The key of the number whose four bytes start at p.
-fn number_at(list: &[u8], p: usize) -> u64
-    requires { ⌜ p + 4 ≤ length (now list) ⌝ }
-    ensures { λ r. ⌜ (r ≡ numberAt (now (list .entry)) p) × (r < 4294967296) ⌝ }
-{
-    let a = wide(list[p]);
-    let b = wide(list[p + 1]);
-    let c = wide(list[p + 2]);
-    let d = wide(list[p + 3]);
-    (a + 256 * b + 65536 * c + 16777216 * d + ORIGIN) % 4294967296
-}
-
-fn key_of(point: u32) -> u64
-    ensures { λ r. ⌜ (r ≡ point + origin) × (r ≤ last) ⌝ }
-{
-    (point as u64) + ORIGIN
-}
-
 fn size_at(list: &[u8], p: usize) -> usize
     requires { ⌜ p + 2 ≤ length (now list) ⌝ }
     ensures { λ r. ⌜ (r ≡ sizeAt (now (list .entry)) p) × (r < 65536) ⌝ }
@@ -83,6 +65,22 @@ fn size_at(list: &[u8], p: usize) -> usize
     let a = wide(list[p]);
     let b = wide(list[p + 1]);
     (a + 256 * b) as usize
+}
+
+// The key of the number whose four bytes start at p.
+fn number_at(list: &[u8], p: usize) -> u64
+    requires { ⌜ p + 4 ≤ length (now list) ⌝ }
+    ensures { λ r. ⌜ (r ≡ numberAt (now (list .entry)) p) × (r < 4294967296) ⌝ }
+{
+    let low = size_at(list, p);
+    let high = size_at(list, p + 2);
+    ((low + 65536 * high) as u64 + ORIGIN) % 4294967296
+}
+
+fn key_of(point: u32) -> u64
+    ensures { λ r. ⌜ (r ≡ point + origin) × (r ≤ last) ⌝ }
+{
+    (point as u64) + ORIGIN
 }
 
 // How many of n ascending pairs from p surely end before the key q: as many as the hint says, if the last of these does, or none.
