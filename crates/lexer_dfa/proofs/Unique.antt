@@ -16,7 +16,7 @@ use Rattle.ascii_run.proofs.serialized_words.Reads as serialized-words
 use Rattle.ascii_run.proofs.Answers.{given}
 use Rattle.run_read.proofs.read_serialized.Reads as read-serialized
 use Rattle.run_read.proofs.read_alone.Reads as read-alone
-use Rattle.short_run.proofs.short_answer.Reads as short-answer
+use Rattle.run_read.proofs.short_answer.Reads as short-answer
 use Rattle.run_write.proofs.write_serialized.Reads as write-serialized
 use Rattle.run_classify.proofs.classify.Reads as classify
 use Rattle.run_scan.proofs.scan.Reads as scan
@@ -113,8 +113,6 @@ read-serialized-unique κs a x y e f p q = given _ p ∙ sym (given _ q)
 
 pub read-alone-unique : Determines read-alone.Learnt
 read-alone-unique κs a x y e f p q = given _ p ∙ sym (given _ q)
-
--- short_run
 
 pub short-answer-unique : Determines short-answer.Learnt
 short-answer-unique κs a x y e f p q = p ∙ sym q

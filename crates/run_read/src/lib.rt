@@ -1,21 +1,80 @@
-// The reading of a run's words: at a place in a list, or alone. A run of one word is read by `short_run`.
+// The reading of a run's words: at a place in a list, or alone.
 ghost use mathlib.Core.Path.{_≡_};
+ghost use Rattle.refusal.specs.Said.{FIELD};
 ghost use Rattle.ascii_range.specs.Ranges.{rangesOfRun};
-ghost use Rattle.ascii_run.specs.Shape.{Gives, answered};
-ghost use Rattle.ascii_run.specs.Words.{readAt, readAlone, shortRun, kindOf, bytesOf, rangesRun};
+ghost use Rattle.ascii_run.specs.Shape.{Gives, answered, refused, plain};
+ghost use Rattle.ascii_run.specs.Words.{readAt, readAlone, orField, shortRun, kindOf, bytesOf, rangesRun};
 use ascii_range::PackedRanges;
 use ascii_run::Answered;
 use ascii_run::AsciiRun;
 use ascii_run::RunAnswer;
 use refusal::FIELD;
+use refusal::Refusal;
 use refusal::SHORT;
+
+fn field(at: usize) -> Answered
+    ensures { λ r. ⌜ r ≡ answered (refused FIELD at) .answer ⌝ }
+{
+    Answered::Refused(Refusal {
+        number: FIELD,
+        place: at,
+    })
+}
+
+// The run where the test holds, else FIELD.
+fn or_field(good: bool, kind: AsciiRun, at: usize) -> Answered
+    ensures { λ r. ⌜ r ≡ answered (orField at good (plain kind)) .answer ⌝ }
+{
+    if good {
+        return Answered::Ran(kind);
+    }
+    field(at)
+}
+
+// The kind of a run of one word; it has no ranges. A scan that needs no more than this has no array to hand on.
+pub fn short_answer(word: u32, at: usize) -> Answered
+    ensures { λ r. ⌜ r ≡ answered (shortRun at (kindOf word) (bytesOf word)) .answer ⌝ }
+{
+    let kind = word % 256;
+    let a = word / 256 % 256;
+    let b = word / 65536 % 256;
+    let c = word / 16777216;
+    if kind == 0 {
+        return or_field((a == 0) & (b == 0) & (c == 0), AsciiRun::None, at);
+    }
+    if kind == 1 {
+        return or_field((a == 0) & (b == 0) & (c == 0), AsciiRun::Any, at);
+    }
+    if kind == 2 {
+        return or_field(
+            (a < 128) & (b == 0) & (c == 0),
+            AsciiRun::Until1(a as u8),
+            at,
+        );
+    }
+    if kind == 3 {
+        return or_field(
+            (a < 128) & (b < 128) & (c == 0),
+            AsciiRun::Until2(a as u8, b as u8),
+            at,
+        );
+    }
+    if kind == 4 {
+        return or_field(
+            (a < 128) & (b < 128) & (c < 128),
+            AsciiRun::Until3(a as u8, b as u8, c as u8),
+            at,
+        );
+    }
+    field(at)
+}
 
 // A run of one word.
 fn read_short(word: u32, at: usize) -> RunAnswer
     ensures { λ r. ⌜ r ≡ answered (shortRun at (kindOf word) (bytesOf word)) ⌝ }
 {
     RunAnswer {
-        answer: short_run::short_answer(word, at),
+        answer: short_answer(word, at),
         ranges: ascii_range::none(),
     }
 }

@@ -52,7 +52,7 @@ fn scan_short(word: u32, at: usize, input: &[u8]) -> StateScan
     if word == 0 {
         return StateScan::NoRun;
     }
-    match short_run::short_answer(word, at) {
+    match run_read::short_answer(word, at) {
         Answered::Ran(kind) => scan_by(kind, ascii_range::none(), input),
         Answered::Refused(_) => no_answer(NOT_TABLE),
     }

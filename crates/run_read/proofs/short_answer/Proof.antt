@@ -1,7 +1,7 @@
 -- Each kind's bytes are tested as its definition tests them.
 use Rattle.ascii_run.proofs.Reading.{reading}
-use Rattle.short_run.proofs.short_answer.Statement.{statement}
-use Rattle.short_run.proofs.short_answer.Tie as tie
+use Rattle.run_read.proofs.short_answer.Statement.{statement}
+use Rattle.run_read.proofs.short_answer.Tie as tie
 
 pub short-answer-spec : {M : Type 1} → statement M
 short-answer-spec =
