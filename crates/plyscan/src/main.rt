@@ -2,7 +2,7 @@
 // Ply 10 must not arrive as ply 1 and a stray 0, so the digits are skipped by a run: the state of the lexer that reads a number
 // loops on them, its row is classified, and each line is scanned by the run that this gives.
 //
-//     rt check plyscan && target/bin/plyscan < crates/plyscan/stdin
+//     rt check plyscan && ./run plyscan < crates/plyscan/stdin
 use lexer_dfa::Answered;
 use lexer_dfa::AsciiRunScan;
 use lexer_dfa::Refusal;

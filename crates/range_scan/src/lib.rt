@@ -55,7 +55,7 @@ fn place_or_end(outside: bool, place: u8) -> u8
 }
 
 // How many bytes of a block stand before the first that is in none of four ranges. The loop has no early way out and a place is
-// one byte, so the compiler tests the 16 bytes at once (SSE2) and no branch depends on where the run ends.
+// one byte, so the compiler tests the 16 bytes at once and no branch depends on where the run ends.
 fn first_outside(a: AsciiRange, b: AsciiRange, c: AsciiRange, d: AsciiRange, block: &[u8]) -> usize
     requires { ⌜ length (now block) ≡ 16 ⌝ }
     ensures { λ r. ⌜ (r ≡ before (outside (a ∷ b ∷ c ∷ d ∷ [])) (now (block .entry))) × (r ≤ 16) ⌝ }

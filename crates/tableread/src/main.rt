@@ -1,7 +1,7 @@
 // The program of document 01, "Ply-sheet examples": it reads a table's words from standard input, the least byte first, and prints
 // one line, `ok MODES STATES WORDS` or `no NUMBER PLACE`.
 //
-//     rt check tableread && target/bin/tableread < crates/tableread/stdin
+//     rt check tableread && ./run tableread < crates/tableread/stdin
 mod line;
 
 use libc::STDIN_FILENO;

@@ -10,9 +10,13 @@ use std::process::{Command, Stdio};
 
 pub const PROGRAM: &str = concat!(env!("CARGO_MANIFEST_DIR"), "/../../target/bin/tableshow");
 
+/// Runs a program, on any processor.
+const RUN: &str = concat!(env!("CARGO_MANIFEST_DIR"), "/../../run");
+
 /// What the program prints for an input.
 fn printed(input: &[u8]) -> String {
-    let mut program = Command::new(PROGRAM)
+    let mut program = Command::new(RUN)
+        .arg("tableshow")
         .stdin(Stdio::piped())
         .stdout(Stdio::piped())
         .spawn()
