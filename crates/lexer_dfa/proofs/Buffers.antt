@@ -21,8 +21,8 @@ use Rattle.transitions.proofs.Accepted.{AllInOrder}
 use Rattle.transitions.proofs.Order.{le-cases}
 use Rattle.segments.specs.Segments.{Asc, cutsOf, starts, startsFrom, segments, segmentsFrom}
 use Rattle.masks.specs.Masks.{bit, wordsFor, maskOf, masksAt, matrix, flat, distinct, distinctOf}
-use Rattle.masks.proofs.Answers.{length-mask}
-use Rattle.mask_places.proofs.Distincts.{Wide, length-flat, wide-distinct}
+use Rattle.masks.proofs.Packs.{length-mask, Wide, wide-masks, length-flat}
+use Rattle.masks.proofs.Keeps.{wide-distinct}
 use Rattle.row_laws.specs.Row.{Row, numbers}
 use Rattle.row_laws.specs.Demand.{heldBy, maskBit, segmentMaskFrom, segmentMaskOver, segmentMask}
 use Rattle.row_laws.proofs.Built.{asc-cuts}
@@ -81,14 +81,9 @@ bit-flat {buffer} words (d ∷ ds) at post (suc k) i v a h l =
     ∙ bit-flat words ds (at + length d) post k i (v .1) (on d (flat ds ++ post) (same a (append-assoc d (flat ds) post))) (omega arith) l
 
 module _ (ts : List Transition) where
-  wide-masks : (ps : List ℕ) → Wide (wordsFor (length ts)) (masksAt ts ps)
-  unfolding masksAt
-  wide-masks [] = tt
-  wide-masks (p ∷ ps) = (length-mask ts p, wide-masks ps)
-
   -- the distinct masks in their buffer
   pub length-distinct : length (flat (distinctOf ts)) ≡ length (distinctOf ts) * wordsFor (length ts)
-  length-distinct = length-flat (wordsFor (length ts)) (distinctOf ts) (wide-distinct (wordsFor (length ts)) [] (matrix ts) tt (wide-masks (starts (cutsOf ts))))
+  length-distinct = length-flat (wordsFor (length ts)) (distinctOf ts) (wide-distinct (wordsFor (length ts)) [] (matrix ts) tt (wide-masks ts (starts (cutsOf ts))))
 
   pub bit-distinct : (n k i : ℕ) → k < length (distinctOf ts) → i < length ts →
       bitAt (padded n (flat (distinctOf ts))) (k * wordsFor (length ts)) i ≡ maskBit (getD (distinctOf ts) k []) i
@@ -96,7 +91,7 @@ module _ (ts : List Transition) where
       let words = wordsFor (length ts) in
       let here : k * words ≡ 0 + k * words = omega arith in
       ap (λ (j : ℕ). bitAt (padded n (flat (distinctOf ts))) j i) here
-      ∙ bit-flat words (distinctOf ts) 0 (zeros (n - length (flat (distinctOf ts)))) k i (wide-distinct words [] (matrix ts) tt (wide-masks (starts (cutsOf ts))))
+      ∙ bit-flat words (distinctOf ts) 0 (zeros (n - length (flat (distinctOf ts)))) k i (wide-distinct words [] (matrix ts) tt (wide-masks ts (starts (cutsOf ts))))
       (padded-stands n (flat (distinctOf ts))) h (omega arith)
 
 -- The mask of the segment that has a point

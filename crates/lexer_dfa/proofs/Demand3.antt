@@ -29,7 +29,7 @@ use Rattle.masks.specs.declared.Masks.the-variants.{Count}
 use Rattle.masks.specs.Masks.{bit, wordsFor, flat, matrix, distinctOf}
 use Rattle.masks.specs.Answer as masks
 use Rattle.masks.specs.Answer.{parseMasks, parseDistinct, masksIn, Matrix, Distinct}
-use Rattle.masks.proofs.Answers.{length-masks}
+use Rattle.masks.proofs.Packs.{length-masks}
 use Rattle.mask_places.proofs.Answers.{accepted-list}
 use Rattle.row_laws.specs.Row.{DEAD, numbers}
 use Rattle.row_laws.specs.Build.{targetRow, asciiOf, wideOf, escapeOf}

@@ -26,8 +26,10 @@ use Rattle.masks.specs.declared.Places.the-variants as place
 use Rattle.masks.specs.Masks.{wordsFor, masksAt, matrix, flat, distinct, distinctOf, placesIn, placesOf}
 use Rattle.mask_places.specs.Walk.{chunks, Gathered, Spaced, Zeroed, Cleared}
 use Rattle.masks.specs.Answer.{said, told, parseMasks, parseDistinct, parsePlaces, counted, foundIn, masksIn, placedIn, Matrix, Placed}
-use Rattle.masks.proofs.Answers.{few-from, length-mask, length-masks, roomy, short}
-use Rattle.mask_places.proofs.Distincts.{Wide, length-flat, chunks-flat, wide-distinct, few-distinct, length-places}
+use Rattle.masks.proofs.Packs.{length-masks, Wide, wide-masks, length-flat, few-wide}
+use Rattle.masks.proofs.Keeps.{wide-distinct}
+use Rattle.masks.proofs.Answers.{few-from, roomy, short}
+use Rattle.mask_places.proofs.Distincts.{chunks-flat, few-distinct, length-places}
 
 -- The call for the distinct ones: what the answer for masks says of the list
 
@@ -61,16 +63,6 @@ each : (s n : ℕ) (w : List ℕ) (c k : ℕ) (ms : List ℕ) (x : Parsed) → p
 unfolding counted masksIn
 each s n w c k ms (parsed ts) e f l = record { ts = ts; is = e; good = all-room s n w ts e; masks = cc; words = cc; leaves = l }
 each s n w c k ms (refused a b) e f l = let z : _≡_ {A = ℕ} 0 1 = cc in absurd (omega arith)
-
-wide-masks : (ts : List Transition) (ps : List ℕ) → Wide (wordsFor (length ts)) (masksAt ts ps)
-unfolding masksAt
-wide-masks ts [] = tt
-wide-masks ts (p ∷ ps) = (length-mask ts p, wide-masks ts ps)
-
-few-wide : (k : ℕ) (ms : List (List ℕ)) → k ≤ 4 → Wide k ms → length (flat ms) ≤ 4 * length ms
-unfolding flat
-few-wide k [] h a = omega arith
-few-wide k (m ∷ ms) h a = omega (arith, length-append m (flat ms), a .0, few-wide k ms h (a .1))
 
 -- no list has more than 256 transitions and 2,047 segments
 few-of : (w : List ℕ) (ts : List Transition) → parse w ≡ parsed ts → (length ts ≤ 256) × (length (starts (cutsOf ts)) ≤ 2047)

@@ -19,7 +19,8 @@ use Rattle.written.proofs.Going.{Going, going-start, going-place, going-put, go
 use Rattle.transitions.proofs.Order.{le-cases}
 use Rattle.masks.specs.Masks.{flat, isZero, index, addNew, distinct, placeOf, placesIn}
 use Rattle.mask_places.specs.Walk.{chunks, Entered, Gathered, Spaced}
-use Rattle.masks.proofs.Keeps.{index-last, place-some, place-none, place-keep}
+use Rattle.masks.proofs.Packs.{Wide, length-flat}
+use Rattle.masks.proofs.Keeps.{add-cases, index-last, place-some, place-none, place-keep, wide-add}
 
 -- Masks one behind another
 
@@ -40,20 +41,6 @@ unfolding flat
 flat-append [] es = refl
 flat-append (d ∷ ds) es = ap (λ (l : List ℕ). d ++ l) (flat-append ds es) ∙ sym (append-assoc d (flat ds) (flat es))
 
--- each of so many words
-abbrev pub Wide : ℕ → List (List ℕ) → Type 0
-Wide words [] = Unit {0}
-Wide words (m ∷ ms) = (length m ≡ words) × Wide words ms
-
-pub wide-append : (words : ℕ) (ds es : List (List ℕ)) → Wide words ds → Wide words es → Wide words (ds ++ es)
-wide-append words [] es a b = b
-wide-append words (d ∷ ds) es a b = (a .0, wide-append words ds es (a .1) b)
-
-pub length-flat : (words : ℕ) (ds : List (List ℕ)) → Wide words ds → length (flat ds) ≡ length ds * words
-unfolding flat
-length-flat words [] a = let z : 0 * words ≡ 0 = omega arith in sym z
-length-flat words (d ∷ ds) a = omega (arith, length-append d (flat ds), a .0, length-flat words ds (a .1), suc-mul (length ds) words)
-
 pub chunks-flat : (words : ℕ) (ds : List (List ℕ)) (zs : List ℕ) → Wide words ds → chunks (length ds) words (flat ds ++ zs) ≡ ds
 unfolding chunks flat
 chunks-flat words [] zs a = refl
@@ -62,6 +49,9 @@ chunks-flat words (d ∷ ds) zs a =
     rw (e, take-at d (flat ds ++ zs) words (a .0), drop-at d (flat ds ++ zs) words (a .0)) (ap (λ (l : List (List ℕ)). d ∷ l) (chunks-flat words ds zs (a .1)))
 
 -- The search for a mask
+
+pub find-start : (known m : List ℕ) (d words : ℕ) → 0 + index (chunks d words (drop 0 known)) m ≡ index (chunks d words known) m
+find-start known m d words = zero-add (index (chunks d words known) m)
 
 module _ (known m : List ℕ) (left words p i : ℕ) {all : ℕ} (e : i + index (chunks left words (drop p known)) m ≡ all) where
   module _ {b : Bool} (n : 0 < left) (f : b ≡ sameList (take words (drop p known)) m) where
@@ -81,33 +71,27 @@ module _ (known m : List ℕ) (left words p i : ℕ) {all : ℕ} (e : i + index 
   unfolding chunks firstEqual
   find-done n = let z : left ≡ 0 = omega arith in let f = rw z at e in omega arith
 
--- The same for one word
+-- The same for one word: the search for a mask of one
 
-module _ (known : List ℕ) (d x i : ℕ) {all : ℕ} (e : i + index (chunks (d - i) 1 (drop i known)) (x ∷ []) ≡ all) (n : i < d) (h : d ≤ length known) where
-  abbrev others : ℕ
-  others = index (chunks (d - (i + 1)) 1 (drop (i + 1) known)) (x ∷ [])
+module _ (known : List ℕ) (d x i : ℕ) {all : ℕ} (e : i + index (chunks (d - i) 1 (drop i known)) (x ∷ []) ≡ all) where
+  module _ (n : i < d) (h : d ≤ length known) where
+    one-same : eqb (getD known i 0) x ≡ sameList (take 1 (drop i known)) (x ∷ [])
+    unfolding sameList
+    one-same = let there : i < length known = omega arith in rw (drop-cons known i 0 there) (sym (and-true (eqb (getD known i 0) x)))
 
-  open-word : index (chunks (d - i) 1 (drop i known)) (x ∷ []) ≡ pick (eqb (getD known i 0) x) 0 (suc others)
-  unfolding chunks firstEqual sameList
-  open-word =
-      let more : d - i ≡ suc (d - (i + 1)) = omega arith in
-      let one : suc i ≡ i + 1 = omega arith in
-      let there : i < length known = omega arith in
-      let is : drop i known ≡ getD known i 0 ∷ drop (i + 1) known = drop-cons known i 0 there ∙ ap (λ (k : ℕ). getD known i 0 ∷ drop k known) one in
-      ap₂ (λ (k : ℕ) (l : List ℕ). index (chunks k 1 l) (x ∷ [])) more is ∙ ap (λ (t : Bool). pick t 0 (suc others)) (and-true (eqb (getD known i 0) x))
+    pub word-hit : getD known i 0 ≡ x → i ≡ all
+    word-hit s = find-hit known (x ∷ []) (d - i) 1 i i e (omega arith) one-same (eq-eqb (getD known i 0) x s)
 
-  pub word-hit : getD known i 0 ≡ x → i ≡ all
-  word-hit s = omega (arith, e, open-word ∙ ap (λ (t : Bool). pick t 0 (suc others)) (eq-eqb (getD known i 0) x s))
+    pub word-turn : (getD known i 0 ≡ x → ⊥) → i + 1 + index (chunks (d - (i + 1)) 1 (drop (i + 1) known)) (x ∷ []) ≡ all
+    word-turn s =
+        let more : d - (i + 1) ≡ d - i - 1 = omega arith in
+        rw more (find-turn known (x ∷ []) (d - i) 1 i i e (omega arith) one-same (ne-eqb (getD known i 0) x s))
 
-  pub word-turn : (getD known i 0 ≡ x → ⊥) → i + 1 + index (chunks (d - (i + 1)) 1 (drop (i + 1) known)) (x ∷ []) ≡ all
-  word-turn s = omega (arith, e, open-word ∙ ap (λ (t : Bool). pick t 0 (suc others)) (ne-eqb (getD known i 0) x s))
-
-pub word-end : (known : List ℕ) (d x i : ℕ) {all : ℕ} → i + index (chunks (d - i) 1 (drop i known)) (x ∷ []) ≡ all → d ≤ i → i ≡ all
-unfolding chunks firstEqual
-word-end known d x i e n = let z : d - i ≡ 0 = omega arith in let f = rw z at e in omega arith
+  pub word-end : d ≤ i → i ≡ all
+  word-end n = find-done known (x ∷ []) (d - i) 1 i i e (omega arith)
 
 pub word-start : (known : List ℕ) (d x : ℕ) → 0 + index (chunks (d - 0) 1 (drop 0 known)) (x ∷ []) ≡ index (chunks d 1 known) (x ∷ [])
-word-start known d x = let e : d - 0 ≡ d = omega arith in rw e (zero-add (index (chunks d 1 known) (x ∷ [])))
+word-start known d x = let e : d - 0 ≡ d = omega arith in rw e (find-start known (x ∷ []) d 1)
 
 pub ruleset wording = (needs, word-start, word-hit, word-turn, word-end)
 
@@ -122,9 +106,6 @@ module _ (p left words : ℕ) {size : ℕ} (n : 0 < left) (h : p + left * words 
 
 pub all-there : (left words : ℕ) {size : ℕ} → left * words ≤ size → 0 + left * words ≤ size
 all-there left words h = omega arith
-
-pub find-start : (known m : List ℕ) (d words : ℕ) → 0 + index (chunks d words (drop 0 known)) m ≡ index (chunks d words known) m
-find-start known m d words = zero-add (index (chunks d words known) m)
 
 module _ (known ms : List ℕ) (d at words : ℕ) (o : words ≡ 1) where
   pub one-word : d * words ≤ length known → d ≤ length known
@@ -209,31 +190,8 @@ pub ruleset counting = (needs, with-new, with-old)
 
 -- All masks, one after the other
 
-record Grown (ds : List (List ℕ)) (m : List ℕ) : Type 0 where
-  more : List (List ℕ)
-  is : addNew ds m ≡ ds ++ more
-  few : length more ≤ 1
-  wide : (words : ℕ) → length m ≡ words → Wide words more
-
-grown : (ds : List (List ℕ)) (m : List ℕ) → Grown ds m
-unfolding addNew
-grown ds m = go (isZero m) (ltb (index ds m) (length ds)) refl
-  where
-    go : (s t : Bool) → addNew ds m ≡ pick s ds (pick t ds (ds ++ (m ∷ []))) → Grown ds m
-    go true t e = record { more = []; is = e ∙ sym (append-nil ds); few = omega arith; wide = λ words h. tt }
-    go false true e = record { more = []; is = e ∙ sym (append-nil ds); few = omega arith; wide = λ words h. tt }
-    go false false e = record { more = m ∷ []; is = e; few = omega arith; wide = λ words h. (h, tt) }
-
-wide-add : (words : ℕ) (ds : List (List ℕ)) (m : List ℕ) → Wide words ds → length m ≡ words → Wide words (addNew ds m)
-wide-add words ds m a h = let g = grown ds m in rw (g .is) (wide-append words ds (g .more) a (g .wide words h))
-
-pub wide-distinct : (words : ℕ) (ds ms : List (List ℕ)) → Wide words ds → Wide words ms → Wide words (distinct ds ms)
-unfolding distinct
-wide-distinct words ds [] a b = a
-wide-distinct words ds (m ∷ ms) a b = wide-distinct words (addNew ds m) ms (wide-add words ds m a (b .0)) (b .1)
-
 few-add : (ds : List (List ℕ)) (m : List ℕ) → length (addNew ds m) ≤ suc (length ds)
-few-add ds m = let g = grown ds m in omega (arith, ap length (g .is), length-append ds (g .more), g .few)
+few-add ds m = add-cases (λ l. length l ≤ suc (length ds)) ds m (omega arith) (λ _. omega (arith, length-append ds (m ∷ [])))
 
 pub few-distinct : (ds ms : List (List ℕ)) → length (distinct ds ms) ≤ length ds + length ms
 unfolding distinct
@@ -250,9 +208,9 @@ over-again (x ∷ xs) ys (y ∷ d) = ap (λ (l : List ℕ). x ∷ l) (over-again
 stand-again : (ds : List (List ℕ)) (m old : List ℕ) → lay 0 (flat (addNew ds m)) (lay 0 (flat ds) old) ≡ lay 0 (flat (addNew ds m)) old
 unfolding lay
 stand-again ds m old =
-    let g = grown ds m in
-    let is : flat (addNew ds m) ≡ flat ds ++ flat (g .more) = ap flat (g .is) ∙ flat-append ds (g .more) in
-    rw is (over-again (flat ds) (flat (g .more)) old)
+    add-cases (λ l. over (flat l) (over (flat ds) old) ≡ over (flat l) old) ds m
+    (rw append-nil at (over-again (flat ds) [] old))
+    (λ _. rw (flat-append ds (m ∷ [])) (over-again (flat ds) (flat (m ∷ [])) old))
 
 -- what was written stands in front
 over-front : (xs d : List ℕ) → length xs ≤ length d → over xs d ≡ xs ++ drop (length xs) d

@@ -3,6 +3,7 @@ use mathlib.Core.Path.{_≡_, refl, sym, ap, ap₂, subst, _∙_}
 use mathlib.Core.List.{List, [], _∷_, _++_}
 use mathlib.Core.Bool.{true}
 use Prim.Native.Nat.{ℕ, zero, suc, _+_, _*_, _-_, _/_, _<_, _≤_}
+use native.Mathlib.Nat.{mul-le-mul-left}
 use native.Mathlib.Omega.{arith}
 use borrow.Author.Needs.{needs}
 use borrow.Author.Tests.{lt-ltb, le-ltb}
@@ -34,7 +35,7 @@ use Rattle.masks.specs.declared.Places.the-variants as place
 use Rattle.masks.specs.Masks.{wordsFor, maskOf, masksAt, matrix, flat}
 use Rattle.masks.specs.Walk.{Fit, lows}
 use Rattle.masks.specs.Answer.{said, told, parseMasks, counted, masksIn, Matrix, Ready}
-use Rattle.masks.proofs.Packs.{length-pack}
+use Rattle.masks.proofs.Packs.{length-masks, length-matrix}
 
 -- How many transitions a list has: no more than 256
 
@@ -90,22 +91,6 @@ unfolding isParsed accepted segmentsIn padded
 lows-in n (parsed ts) h = lows-starts (cutsOf ts) (zeros (n - length (segments (cutsOf ts))))
 lows-in n (refused k p) h = let z : _≡_ {A = ℕ} 0 1 = cc in absurd (omega arith)
 
--- How long masks are
-
-pub length-mask : (ts : List Transition) (p : ℕ) → length (maskOf ts p) ≡ wordsFor (length ts)
-unfolding maskOf
-length-mask ts p = length-pack (wordsFor (length ts)) _
-
-pub length-masks : (ts : List Transition) (ps : List ℕ) → length (masksAt ts ps) ≡ length ps
-unfolding masksAt
-length-masks ts [] = refl
-length-masks ts (p ∷ ps) = ap suc (length-masks ts ps)
-
-few-words : (ts : List Transition) (ps : List ℕ) → length ts ≤ 256 → length (flat (masksAt ts ps)) ≤ 4 * length ps
-unfolding masksAt flat
-few-words ts [] h = omega arith
-few-words ts (p ∷ ps) h = omega (arith, length-append (maskOf ts p) (flat (masksAt ts ps)), length-mask ts p, few-words ts ps h)
-
 -- The masks of an accepted list, written into a buffer of zeros
 
 is-matrix : (s n c k : ℕ) (x : Parsed) (ns out : List ℕ) → isParsed x ≡ true → c ≡ length (starts (cutsOf (accepted x))) → k ≡ length (accepted x) →
@@ -139,7 +124,9 @@ module _ (w ns : List ℕ) (count : ℕ) (d : List ℕ) (r : Ready w ns count d)
   written = ap₂ (λ (a : List Transition) (ps : List ℕ). flat (masksAt a ps)) of-list of-starts
 
   fits : length (flat (matrix ts)) ≤ length d
-  fits = omega (arith, few-words ts (starts (cutsOf ts)) few, few-segments w, r .room)
+  fits =
+      let four : wordsFor (length ts) ≤ 4 = omega (arith, few) in
+      omega (arith, length-matrix ts (starts (cutsOf ts)), mul-le-mul-left (length (starts (cutsOf ts))) four, few-segments w, r .room)
 
   pub fill-sound : Fit w n 0
   fill-sound = rw e (fit w (length ts) 0 (all .sound) (subst AllInOrder (all .is) (all .order)))

@@ -1,4 +1,5 @@
--- PLACES: a mask that was put among the distinct ones keeps its place there when more are put behind. Assumes nothing.
+-- PLACES: a mask that was put among the distinct ones keeps its place there when more are put behind, and each of them is as long as all masks
+-- are. Assumes nothing.
 use Prim.Native.Nat.{ℕ, suc, _≤_, _<_}
 use mathlib.Core.Path.{_≡_, refl, ap, _∙_}
 use mathlib.Core.Bool.{Bool, true, false}
@@ -12,6 +13,7 @@ use Rattle.refusal.specs.Lists.{pick, sameList, firstEqual}
 use Rattle.refusal.specs.Fixed.{NONE}
 use Rattle.transitions.proofs.Order.{le-cases}
 use Rattle.masks.specs.Masks.{isZero, index, addNew, distinct, placeOf}
+use Rattle.masks.proofs.Packs.{Every, Wide}
 
 -- m has a place among the masks
 abbrev pub Has : List (List ℕ) → List ℕ → Type 0
@@ -32,14 +34,20 @@ has-last (d ∷ ds) m = go (sameList d m) (has-last ds m)
     go true k = omega arith
     go false k = omega arith
 
-has-keep : (ds : List (List ℕ)) (x m : List ℕ) → Has ds m → Has (addNew ds x) m
+-- a fact of the masks ds, and of these with m behind them where it is new, is one of what adding m leaves
+pub add-cases : (P : List (List ℕ) → Type 0) (ds : List (List ℕ)) (m : List ℕ) → P ds → (length ds ≤ index ds m → P (ds ++ (m ∷ []))) → P (addNew ds m)
 unfolding addNew
-has-keep ds x m h = go (isZero x) (ltb (index ds x) (length ds))
+add-cases P ds m a b = go (isZero m)
   where
-    go : (s t : Bool) → Has (pick s ds (pick t ds (ds ++ (x ∷ [])))) m
-    go true t = h
-    go false true = h
-    go false false = has-append ds (x ∷ []) m h
+    go : (s : Bool) → P (pick s ds (pick (ltb (index ds m) (length ds)) ds (ds ++ (m ∷ []))))
+    go true = a
+    go false =
+        le-cases (length ds) (index ds m)
+        (λ h. rw (le-ltb (index ds m) (length ds) h) (b h))
+        (λ h. rw (lt-ltb (index ds m) (length ds) h) a)
+
+has-keep : (ds : List (List ℕ)) (x m : List ℕ) → Has ds m → Has (addNew ds x) m
+has-keep ds x m h = add-cases (λ l. Has l m) ds x h (λ _. has-append ds (x ∷ []) m h)
 
 pub has-new : (ds : List (List ℕ)) (m : List ℕ) → isZero m ≡ false → Has (addNew ds m) m
 unfolding addNew
@@ -64,13 +72,7 @@ index-last (d ∷ ds) m h = go (sameList d m) h (λ k. index-last ds m k)
     go false k ih = ap suc (ih (omega arith))
 
 index-keep : (ds : List (List ℕ)) (x m : List ℕ) → Has ds m → index (addNew ds x) m ≡ index ds m
-unfolding addNew
-index-keep ds x m h = go (isZero x) (ltb (index ds x) (length ds))
-  where
-    go : (s t : Bool) → index (pick s ds (pick t ds (ds ++ (x ∷ [])))) m ≡ index ds m
-    go true t = refl
-    go false true = refl
-    go false false = index-snoc ds (x ∷ []) m h
+index-keep ds x m h = add-cases (λ l. index l m ≡ index ds m) ds x refl (λ _. index-snoc ds (x ∷ []) m h)
 
 index-distinct-keep : (ds ms : List (List ℕ)) (m : List ℕ) → Has ds m → index (distinct ds ms) m ≡ index ds m
 unfolding distinct
@@ -92,3 +94,23 @@ place-keep ds ms m = go (isZero m) refl
     go : (t : Bool) → isZero m ≡ t → pick (isZero m) NONE (index (distinct (addNew ds m) ms) m) ≡ pick (isZero m) NONE (index (addNew ds m) m)
     go true e = rw e
     go false e = rw e (index-distinct-keep (addNew ds m) ms m (has-new ds m e))
+
+-- A fact of every mask is one of every distinct mask
+
+every-add : (P : List ℕ → Type 0) (ds : List (List ℕ)) (m : List ℕ) → Every P ds → P m → Every P (addNew ds m)
+every-add P ds m h e = add-cases (Every P) ds m h (λ _. snoc ds h)
+  where
+    snoc : (ds : List (List ℕ)) → Every P ds → Every P (ds ++ (m ∷ []))
+    snoc [] h = (e, tt)
+    snoc (d ∷ ds) h = (h .0, snoc ds (h .1))
+
+pub every-distinct : (P : List ℕ → Type 0) (ds ms : List (List ℕ)) → Every P ds → Every P ms → Every P (distinct ds ms)
+unfolding distinct
+every-distinct P ds [] h e = h
+every-distinct P ds (m ∷ ms) h e = every-distinct P (addNew ds m) ms (every-add P ds m h (e .0)) (e .1)
+
+pub wide-add : (words : ℕ) (ds : List (List ℕ)) (m : List ℕ) → Wide words ds → length m ≡ words → Wide words (addNew ds m)
+wide-add words = every-add (λ m. length m ≡ words)
+
+pub wide-distinct : (words : ℕ) (ds ms : List (List ℕ)) → Wide words ds → Wide words ms → Wide words (distinct ds ms)
+wide-distinct words = every-distinct (λ m. length m ≡ words)

@@ -1,5 +1,5 @@
 -- The laws of writing masks: the words of one, and the masks of all segments. w is the list's bytes, `at` a record's offset. Assumes nothing.
-use mathlib.Core.Path.{_≡_, refl, ap, ap₂}
+use mathlib.Core.Path.{_≡_, refl, ap, ap₂, _∙_}
 use mathlib.Core.List.{List, _∷_, _++_}
 use mathlib.Core.Bool.{Bool}
 use Prim.Native.Nat.{ℕ, zero, suc, _+_, _-_, _<_, _≤_, min}
@@ -14,7 +14,8 @@ use Rattle.transitions.specs.Walk.{transAt, nextAt, transFrom}
 use Rattle.transitions.proofs.Order.{le-cases}
 use Rattle.masks.specs.Masks.{wordOf, pack, wordsFor, maskOf, masksAt, flat}
 use Rattle.masks.specs.Walk.{Fit, nextOf, lows}
-use Rattle.masks.proofs.Words.{length-hold}
+use Rattle.masks.proofs.Packs.{length-hold}
+use Rattle.masks.proofs.Words.{length-trans}
 
 -- The first records of so many, and those behind
 
@@ -44,16 +45,14 @@ module _ (w : List ℕ) where
   fit-rest (suc k) r zero at e s = absurd (omega arith)
   fit-rest (suc k) r (suc n) at e s = fit-rest k r n (nextAt w at) (omega arith) (s .3)
 
-pub length-trans : (w : List ℕ) (n at : ℕ) → length (transFrom w n at) ≡ n
-unfolding transFrom
-length-trans w zero at = refl
-length-trans w (suc n) at = ap suc (length-trans w n (nextAt w at))
-
 -- The loop over the words of a mask, 64 records each
 
 module _ (w : List ℕ) (left at point : ℕ) {few : ℕ} (n : 0 < left) (f : few ≡ min 64 left) where
   parts : left ≡ few + (left - few)
   parts = omega arith
+
+  size : length (holdAt (transFrom w left at) point) ≡ left
+  size = length-hold (transFrom w left at) point ∙ length-trans w left at
 
   front : take 64 (holdAt (transFrom w left at) point) ≡ holdAt (transFrom w few at) point
   front =
@@ -61,7 +60,7 @@ module _ (w : List ℕ) (left at point : ℕ) {few : ℕ} (n : 0 < left) (f : fe
       (λ h. let e : few ≡ 64 = omega arith in rw e (take-hold w point 64 (left - 64) left at (omega arith)))
       (λ h.
       let e : few ≡ left = omega arith in
-      rw e (take-all 64 (holdAt (transFrom w left at) point) (omega (arith, length-hold w left at point))))
+      rw e (take-all 64 (holdAt (transFrom w left at) point) (omega (arith, size))))
 
   behind : drop 64 (holdAt (transFrom w left at) point) ≡ holdAt (transFrom w (left - few) (nextOf w few at)) point
   unfolding holdAt transFrom
@@ -70,7 +69,7 @@ module _ (w : List ℕ) (left at point : ℕ) {few : ℕ} (n : 0 < left) (f : fe
       (λ h. let e : few ≡ 64 = omega arith in rw e (drop-hold w point 64 (left - 64) left at (omega arith)))
       (λ h.
       let e : left - few ≡ 0 = omega arith in
-      let l : length (holdAt (transFrom w left at) point) ≤ 64 = omega (arith, length-hold w left at point) in
+      let l : length (holdAt (transFrom w left at) point) ≤ 64 = omega (arith, size) in
       rw e (drop-of-length-le (holdAt (transFrom w left at) point) l))
 
   mask-open : maskOf (transFrom w left at) point ≡ wordOf (holdAt (transFrom w few at) point) ∷ maskOf (transFrom w (left - few) (nextOf w few at)) point

@@ -4,11 +4,9 @@ use mathlib.Core.Path.{_≡_, refl, sym, ap}
 use mathlib.Core.List.{List}
 use mathlib.Core.Bool.{true}
 use Prim.Native.Nat.{ℕ, zero, suc, _+_, _*_, _-_, _^_, _<_, _≤_}
-use native.Mathlib.Nat.{le-trans}
 use native.Mathlib.Omega.{arith}
 use borrow.Author.Needs.{needs}
 use lib.ListN.{length, getD}
-use lib.Pow.{pow-mono}
 use mir.Val.{Fits}
 use mir.Syntax.{w64}
 use Rattle.transitions.specs.Transition.{holds, holdAt, inOrder}
@@ -16,7 +14,7 @@ use Rattle.transitions.specs.Bytes.{sizeAt, shapeOf, transOf}
 use Rattle.transitions.specs.Walk.{transAt, nextAt, transFrom}
 use Rattle.masks.specs.Masks.{bit, wordOf}
 use Rattle.masks.specs.Walk.{Fit, nextOf}
-use Rattle.masks.proofs.Packs.{wordOf-lt}
+use Rattle.masks.proofs.Packs.{word-lt}
 
 -- The first of n records, and the others
 
@@ -41,15 +39,10 @@ unfolding wordOf holdAt transFrom
 word-turn w zero at point z = absurd (z refl)
 word-turn w (suc n) at point z = let p : suc n - 1 ≡ n = omega arith in rw p
 
-pub length-hold : (w : List ℕ) (n at point : ℕ) → length (holdAt (transFrom w n at) point) ≡ n
-unfolding holdAt transFrom
-length-hold w zero at point = refl
-length-hold w (suc n) at point = ap suc (length-hold w n (nextAt w at) point)
-
-pub word-lt : (w : List ℕ) (n at point : ℕ) → n ≤ 63 → wordOf (holdAt (transFrom w n at) point) < 2 ^ 63
-word-lt w n at point h =
-    let l : length (holdAt (transFrom w n at) point) ≤ 63 = omega (arith, length-hold w n at point) in
-    le-trans (wordOf-lt (holdAt (transFrom w n at) point)) (pow-mono l)
+pub length-trans : (w : List ℕ) (n at : ℕ) → length (transFrom w n at) ≡ n
+unfolding transFrom
+length-trans w zero at = refl
+length-trans w (suc n) at = ap suc (length-trans w n (nextAt w at))
 
 pub word-none : (w : List ℕ) (n at point : ℕ) → n ≡ 0 → 0 ≡ wordOf (holdAt (transFrom w n at) point)
 unfolding wordOf holdAt transFrom
@@ -78,7 +71,7 @@ module _ (w : List ℕ) (n at : ℕ) (s : Fit w n at) (z : n ≡ 0 → ⊥) wher
     module _ (point : ℕ) {b more : ℕ} (f : n ≤ 64) (j : b ≡ bit (holds (transOf w (getD w at 0) k (at + 3)) point))
         (g : more ≡ wordOf (holdAt (transFrom w (n - 1) (at + 3 + k)) point)) where
       small : more < 2 ^ 63
-      small = rw g (word-lt w (n - 1) (at + 3 + k) point (omega arith))
+      small = rw g (word-lt (transFrom w (n - 1) (at + 3 + k)) point (omega (arith, length-trans w (n - 1) (at + 3 + k))))
 
       pub word-double : Fits w64 (2 * more)
       word-double = omega (arith, small)

@@ -7,10 +7,10 @@ use mathlib.Core.List.{List, [], _∷_}
 use lib.ListN.{length, getD}
 use lib.Dec.{leb, ltb}
 use Rattle.refusal.specs.Lists.{pick}
-use Rattle.transitions.specs.Transition.{Transition, origin, anyHas, holds, holdAt, inOrder}
+use Rattle.transitions.specs.Transition.{Transition, origin, anyHas, holds, inOrder}
 use Rattle.transitions.specs.Bytes.{sizeAt, numberAt, pairsAt, shapeOf}
 use Rattle.transitions.specs.Walk.{transAt, nextAt}
-use Rattle.masks.specs.Masks.{bit, wordOf}
+use Rattle.masks.specs.Masks.{bit}
 
 -- k records stand from `at` on, whole, each of its tag's length and in order
 unfoldable pub Fit : List ℕ → ℕ → ℕ → Type 0
@@ -79,16 +79,16 @@ unfoldable pub lows : List ℕ → ℕ → ℕ → List ℕ
 lows ns zero at = []
 lows ns (suc k) at = getD ns at 0 ∷ lows ns k (at + 2)
 
--- the words of the points ps for the transitions ts
-unfoldable pub wordsAt : List Transition → List ℕ → List ℕ
-wordsAt ts [] = []
-wordsAt ts (p ∷ ps) = wordOf (holdAt ts p) ∷ wordsAt ts ps
-
--- the bit of the transition t, put in front of each word
+-- the bit of the transition t, put in front of the words of the points ps, which stand first
 unfoldable pub column : Transition → List ℕ → List ℕ → List ℕ
-column t [] xs = []
+column t [] xs = xs
 column t (p ∷ ps) [] = []
 column t (p ∷ ps) (x ∷ xs) = (bit (holds t p) + 2 * x) ∷ column t ps xs
+
+-- the bits of all transitions, those of the last put first
+unfoldable pub stacked : List Transition → List ℕ → List ℕ → List ℕ
+stacked [] ps xs = xs
+stacked (t ∷ ts) ps xs = column t ps (stacked ts ps xs)
 
 -- so many words stand in xs, each with room for a bit
 pub record Columned (count : ℕ) (xs : List ℕ) : Type 0 where

@@ -4,7 +4,7 @@ ghost use mathlib.Core.Path.{_≡_};
 ghost use mathlib.Core.Bool.{true};
 ghost use Prim.Native.Nat.{_+_, _*_, _/_, _≤_, _<_, min};
 ghost use lib.ListN.{length};
-ghost use Rattle.written.specs.Over.{lay, Put, zeros};
+ghost use Rattle.written.specs.Over.{Put, zeros};
 ghost use Rattle.transitions.specs.Transition.{origin, atom, holds, holdAt, inOrder};
 ghost use Rattle.transitions.specs.Bytes.{numberAt, sizeAt, shapeOf, transOf};
 ghost use Rattle.transitions.specs.Read.{parse, accepted};
@@ -315,7 +315,7 @@ fn add_column(
     requires order { ⌜ inOrder (transOf (now list) tag size p) ≡ true ⌝ }
     requires points { ⌜ 2 * count ≤ length (now segments) ⌝ }
     requires room { ⌜ Columned count (now out) ⌝ }
-    ensures { λ _. ⌜ now (out .exit) ≡ lay 0 (column (transOf (now (list .entry)) tag size p) (lows (now (segments .entry)) count 0) (now (out .entry))) (now (out .entry)) ⌝ }
+    ensures { λ _. ⌜ now (out .exit) ≡ column (transOf (now (list .entry)) tag size p) (lows (now (segments .entry)) count 0) (now (out .entry)) ⌝ }
 {
     let mut left = count;
     let mut at: usize = 0;
@@ -342,7 +342,7 @@ fn record_column(list: &[u8], at: usize, segments: &[u32], count: usize, out: &m
     requires there { ⌜ at + 3 ≤ length (now list) ⌝ }
     requires points { ⌜ 2 * count ≤ length (now segments) ⌝ }
     requires room { ⌜ Columned count (now out) ⌝ }
-    ensures { λ _. ⌜ now (out .exit) ≡ lay 0 (column (transAt (now (list .entry)) at) (lows (now (segments .entry)) count 0) (now (out .entry))) (now (out .entry)) ⌝ }
+    ensures { λ _. ⌜ now (out .exit) ≡ column (transAt (now (list .entry)) at) (lows (now (segments .entry)) count 0) (now (out .entry)) ⌝ }
 {
     let tag = list[at];
     let size = size_at(list, at + 1);

@@ -8,26 +8,23 @@ use native.Mathlib.Omega.{arith}
 use lib.ListN.{length}
 use borrow.Author.Tests.{lt-ltb, le-ltb, le-leb, lt-leb}
 use Rattle.written.specs.Over.{zeros}
-use Rattle.transitions.specs.Transition.{Transition, points, holdAt, Complement}
+use Rattle.transitions.specs.Transition.{Transition, points, Complement}
 use Rattle.transitions.specs.Read.{parse, isParsed, accepted}
 use Rattle.transitions.proofs.Accepted.{AllInOrder, listed}
 use Rattle.transitions.proofs.Order.{le-cases}
 use Rattle.segments.specs.Segments.{Asc, cutsOf}
 use Rattle.masks.specs.Masks.{bit, wordsFor, maskOf}
+use Rattle.masks.proofs.Packs.{length-mask}
 use Rattle.row_laws.specs.Demand.{heldBy, maskBit, segmentMaskFrom, segmentMaskOver, segmentMask, Flipped}
 use Rattle.row_laws.proofs.Cuts.{In, asc-in}
 use Rattle.row_laws.proofs.Segments.{Outside}
-use Rattle.row_laws.proofs.Masks.{length-pack, zero-zeros}
+use Rattle.row_laws.proofs.Masks.{zero-zeros}
 use Rattle.row_laws.proofs.Built.{asc-cuts, mask-same, mask-none}
 use Rattle.row_laws.proofs.Looks.{mask-exact}
 
 -- The mask by the segment
 
 module _ (ts : List Transition) (p : ℕ) where
-  length-mask : length (maskOf ts p) ≡ wordsFor (length ts)
-  unfolding maskOf
-  length-mask = length-pack (wordsFor (length ts)) (holdAt ts p)
-
   before-from : (c : ℕ) (cs : List ℕ) → Asc (suc c) cs → p < c → segmentMaskFrom ts p c cs ≡ zeros (wordsFor (length ts))
   unfolding segmentMaskFrom
   before-from c [] a h = refl
@@ -35,7 +32,7 @@ module _ (ts : List Transition) (p : ℕ) where
 
   module _ (a : AllInOrder ts) (h : p < points) where
     empty-mask : Outside (cutsOf ts) p → maskOf ts p ≡ zeros (wordsFor (length ts))
-    empty-mask o = zero-zeros (maskOf ts p) (mask-none ts a p h o) ∙ ap zeros length-mask
+    empty-mask o = zero-zeros (maskOf ts p) (mask-none ts a p h o) ∙ ap zeros (length-mask ts p)
 
     mask-from : (c : ℕ) (cs : List ℕ) → Asc (suc c) cs → ((x : ℕ) → In x (cutsOf ts) → (x ≤ c) ⊎ In x cs) → c ≤ p → segmentMaskFrom ts p c cs ≡ maskOf ts p
     unfolding segmentMaskFrom

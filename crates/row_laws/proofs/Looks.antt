@@ -11,22 +11,18 @@ use Rattle.refusal.specs.Fixed.{NONE}
 use Rattle.transitions.specs.Transition.{Transition, holdAt}
 use Rattle.transitions.specs.Read.{parse, isParsed, accepted}
 use Rattle.transitions.proofs.Accepted.{AllInOrder, listed}
-use Rattle.masks.specs.Masks.{bit, pack, wordsFor, maskOf, masksAt, isZero, index, distinctOf, matrix}
+use Rattle.masks.specs.Masks.{bit, pack, wordsFor, maskOf, isZero, index, distinctOf, matrix}
 use Rattle.segments.specs.Segments.{cutsOf, starts}
-use Rattle.masks.proofs.Keeps.{Has}
+use Rattle.masks.proofs.Packs.{length-hold, every-mask}
+use Rattle.masks.proofs.Keeps.{Has, every-distinct}
 use Rattle.row_laws.specs.Row.{DEAD}
 use Rattle.row_laws.specs.Build.{targetOf}
 use Rattle.row_laws.specs.Demand.{heldBy, maskBit, Exactly, Looked}
 use Rattle.row_laws.proofs.Masks.{Blank, bit-inj, blank-zero, zero-blank, pack-bit}
-use Rattle.row_laws.proofs.Distinct.{Every, has-at, once-distinct, every-distinct, every-at}
+use Rattle.row_laws.proofs.Distinct.{has-at, once-distinct, every-at}
 use Rattle.row_laws.proofs.Built.{given-none, given-at, target-law, cont-law, place-law}
 
 -- The bits of a point's mask
-
-pub length-holdAt : (ts : List Transition) (p : ℕ) → length (holdAt ts p) ≡ length ts
-unfolding holdAt
-length-holdAt [] p = refl
-length-holdAt (t ∷ ts) p = ap suc (length-holdAt ts p)
 
 getD-holdAt : (ts : List Transition) (i p : ℕ) → i < length ts → getD (holdAt ts p) i false ≡ heldBy ts i p
 unfolding holdAt
@@ -62,9 +58,9 @@ module _ (ts : List Transition) where
   unfolding maskOf
   mask-one p q e =
       ap (pack (wordsFor (length ts)))
-      (ext-getD false (holdAt ts q) (holdAt ts p) (length-holdAt ts q ∙ sym (length-holdAt ts p))
+      (ext-getD false (holdAt ts q) (holdAt ts p) (length-hold ts q ∙ sym (length-hold ts p))
       (λ i h.
-      let l : i < length ts = omega (arith, length-holdAt ts q) in
+      let l : i < length ts = omega (arith, length-hold ts q) in
       getD-holdAt ts i q l ∙ bit-inj (heldBy ts i q) (heldBy ts i p) (sym (mask-exact q i l) ∙ e i l) ∙ sym (getD-holdAt ts i p l)))
 
   some-nonzero : (p i : ℕ) → i < length ts → heldBy ts i p ≡ true → isZero (maskOf ts p) ≡ false
@@ -79,18 +75,15 @@ module _ (ts : List Transition) where
       blank-zero (wordsFor (length ts)) (holdAt ts p)
       (blank-each (holdAt ts p)
       (λ i h.
-      let l : i < length ts = omega (arith, length-holdAt ts p) in
+      let l : i < length ts = omega (arith, length-hold ts p) in
       getD-holdAt ts i p l ∙ not-true (heldBy ts i p) (n i l)))
 
   -- The distinct masks: each of some point, at its own place
 
-  every-mask : (ps : List ℕ) → Every (Mask ts) (masksAt ts ps)
-  unfolding masksAt
-  every-mask [] = tt
-  every-mask (p ∷ ps) = (record { point = p; is = refl }, every-mask ps)
-
   distinct-mask : (k : ℕ) → k < length (distinctOf ts) → Mask ts (getD (distinctOf ts) k [])
-  distinct-mask k h = every-at (Mask ts) (distinctOf ts) k (every-distinct (Mask ts) [] (matrix ts) tt (every-mask (starts (cutsOf ts)))) h
+  distinct-mask k h =
+      let every = every-mask (Mask ts) ts (λ p. record { point = p; is = refl }) (starts (cutsOf ts)) in
+      every-at (Mask ts) (distinctOf ts) k (every-distinct (Mask ts) [] (matrix ts) tt every) h
 
   distinct-once : (k : ℕ) → k < length (distinctOf ts) → index (distinctOf ts) (getD (distinctOf ts) k []) ≡ k
   distinct-once = once-distinct [] (matrix ts) (λ k h. absurd (omega arith))

@@ -6,16 +6,13 @@ use mathlib.Core.List.{List, [], _∷_}
 use native.Mathlib.Omega.{arith}
 use native.Mathlib.Nat.{zero-div}
 use lib.ListN.{length, getD, take, drop}
-use lib.Seq.{ext-getD, getD-take, getD-drop, drop-drop}
+use lib.Seq.{getD-take, getD-drop, drop-drop}
 use lib.Pow.{shr-shr}
 use lib.Dec.{eqb}
 use borrow.Author.Tests.{eqb-true}
 use Rattle.written.specs.Over.{zeros}
 use Rattle.masks.specs.Masks.{bit, wordOf, pack, isZero}
-
-bit-le : (b : Bool) → bit b ≤ 1
-bit-le true = omega arith
-bit-le false = omega arith
+use Rattle.masks.proofs.Packs.{bit-le}
 
 pub bit-inj : (b c : Bool) → bit b ≡ bit c → b ≡ c
 bit-inj true true e = refl
@@ -47,21 +44,6 @@ pub pack-bit : (n : ℕ) (bs : List Bool) (k b : ℕ) → k < n → b < 64 → g
 pack-bit n bs k b h g =
     let part : List Bool = drop (64 * k) bs in
     rw (getD-pack n bs k h) (wordOf-bit (take 64 part) b ∙ ap bit (getD-take 64 part b false g ∙ getD-drop (64 * k) bs b false))
-
--- two masks of one size are equal only where their bits are
-pub pack-inj : (n : ℕ) (bs cs : List Bool) → length bs ≡ length cs → length bs ≤ 64 * n → pack n bs ≡ pack n cs → bs ≡ cs
-pack-inj n bs cs l f e = ext-getD false bs cs l at-each
-  where
-    at-each : (i : ℕ) → i < length bs → getD bs i false ≡ getD cs i false
-    at-each i h =
-        let k : ℕ = i / 64 in
-        let b : ℕ = i % 64 in
-        let parts : 64 * k + b ≡ i = omega arith in
-        let kn : k < n = omega arith in
-        let bl : b < 64 = omega arith in
-        let same : bit (getD bs (64 * k + b) false) ≡ bit (getD cs (64 * k + b) false) =
-        sym (pack-bit n bs k b kn bl) ∙ ap (λ (m : List ℕ). getD m k 0 / 2 ^ b % 2) e ∙ pack-bit n cs k b kn bl in
-        bit-inj _ _ (rw parts at same)
 
 -- no bit
 abbrev pub Blank : List Bool → Type 0
@@ -105,11 +87,6 @@ zero-blank n bs i z h =
     let none : bit (getD bs (64 * k + b) false) ≡ bit false =
     sym (pack-bit n bs k b kn bl) ∙ ap (λ (w : ℕ). w / 2 ^ b % 2) (zero-getD (pack n bs) k z) ∙ ap (λ (w : ℕ). w % 2) (zero-div (2 ^ b)) in
     bit-inj _ _ (rw parts at none)
-
-pub length-pack : (n : ℕ) (bs : List Bool) → length (pack n bs) ≡ n
-unfolding pack
-length-pack zero bs = refl
-length-pack (suc n) bs = ap suc (length-pack n (drop 64 bs))
 
 -- the empty mask is zeros
 pub zero-zeros : (m : List ℕ) → isZero m ≡ true → m ≡ zeros (length m)

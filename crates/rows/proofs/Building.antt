@@ -25,7 +25,7 @@ use Rattle.masks.specs.declared.Places.the-variants as place
 use Rattle.masks.specs.Masks.{maskOf, masksAt, matrix, flat, isZero, distinctOf, placeOf, placesIn, placesOf}
 use Rattle.masks.specs.Answer.{told, parseDistinct, parsePlaces, foundIn, masksIn, placedIn, Placed}
 use Rattle.masks.proofs.Keeps.{place-some, place-none}
-use Rattle.masks.proofs.Answers.{length-masks}
+use Rattle.masks.proofs.Packs.{length-masks}
 use Rattle.mask_places.proofs.Distincts.{length-places, few-distinct}
 use Rattle.mask_places.proofs.Answers.{accepted-list, roomy-places}
 use Rattle.row_laws.specs.Row.{Row, DEAD, Sorted, numbers, rowFrom, rowOver, joinTo, join, partFrom, values, asciiPart, widePart}
