@@ -42,10 +42,12 @@ module _ (w a b e : List ℕ) {ps : List ℕ} {got : Places} {ns ms out : List �
       let g = rw same-list at h in
       record { says = s; low-high = g .low-high; each = g .each; leaves = g .once }
 
-  pub without-places : {c m k : ℕ} → got ≡ place.Found c m k → Distinct (Count m k) (length a) ns (length b) ms (length e) out (parseDistinct (length a) (length b) (length e) w)
+  pub without-places : {c m k : ℕ} → got ≡ place.Found c m k →
+      Distinct (Count m k) (length a) ns (length b) ms (length e) out (parseDistinct (length a) (length b) (length e) w)
   without-places i = without (found-said x (ap told (sym i) ∙ h .says ∙ ap foundIn same-list))
 
-  pub without-refused : {r : Refusal} → got ≡ place.Refused r → Distinct (Refused r) (length a) ns (length b) ms (length e) out (parseDistinct (length a) (length b) (length e) w)
+  pub without-refused : {r : Refusal} → got ≡ place.Refused r →
+      Distinct (Refused r) (length a) ns (length b) ms (length e) out (parseDistinct (length a) (length b) (length e) w)
   without-refused i = without (none-said x (ap told (sym i) ∙ h .says ∙ ap foundIn same-list))
 
 pub ruleset distincts = (needs, length-replicate, without-places, without-refused)

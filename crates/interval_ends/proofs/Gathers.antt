@@ -59,7 +59,8 @@ module _ (w old : List ℕ) (at n : ℕ) (out : List ℕ) (g : Gather w old at n
       pub gather-room : n + length (ends (intervals (transOf w (getD w at 0) s (at + 3)))) ≤ length out
       gather-room = rw e (going-room (endsAll (accepted (parse w))) 0 old rest n out (ends (intervals (transAt w at))) going-here)
 
-      pub gather-again : {r : ℕ} {new : List ℕ} → Put (ends (intervals (transOf w (getD w at 0) s (at + 3)))) n out r new → Gather w old (at + 3 + s) r new
+      pub gather-again : {r : ℕ} {new : List ℕ} → Put (ends (intervals (transOf w (getD w at 0) s (at + 3)))) n out r new →
+          Gather w old (at + 3 + s) r new
       gather-again p =
           rw e
           (record {
@@ -111,14 +112,17 @@ module _ (w old : List ℕ) {d : List ℕ} (z : d ≡ zeros (length old)) where
   roomy l = let h : 2048 ≤ length old = omega (arith, size) in rw (le-ltb (length old) 2048 h)
 
   module _ (l : 2048 ≤ length d) {got : Transitions} (g : said got ≡ counted (parse w)) where
-    pub is-read : {c k m : ℕ} {out : List ℕ} → got ≡ Read c k → Put (endsAll (accepted (parse w))) 0 d m out → Writes (Read c k) (length old) out (parseInto (length old) w)
+    pub is-read : {c k m : ℕ} {out : List ℕ} → got ≡ Read c k → Put (endsAll (accepted (parse w))) 0 d m out →
+        Writes (Read c k) (length old) out (parseInto (length old) w)
     is-read e p =
         let h : isParsed (parse w) ≡ true = was-read (parse w) g e in
         let f : length (endsAll (accepted (parse w))) ≤ length old = omega (arith, size, most-ends w h) in
         rw (roomy l)
         (record {
           says = ap said (sym e) ∙ g;
-          leaves = p .is ∙ ap (lay 0 (endsAll (accepted (parse w)))) z ∙ lay-zeros (length old) (endsAll (accepted (parse w))) f ∙ left-in (length old) (parse w) h;
+          leaves =
+              p .is ∙ ap (lay 0 (endsAll (accepted (parse w)))) z ∙ lay-zeros (length old) (endsAll (accepted (parse w))) f
+              ∙ left-in (length old) (parse w) h;
         })
 
     pub is-refused : {r : Refusal} → got ≡ Refused r → Writes (Refused r) (length old) d (parseInto (length old) w)

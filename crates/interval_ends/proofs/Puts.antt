@@ -3,7 +3,6 @@ use mathlib.Core.Path.{_≡_, refl, sym, ap, _∙_}
 use mathlib.Core.List.{List, [], _∷_, _++_, append-nil}
 use mathlib.Core.Bool.{Bool, true, false}
 use Prim.Native.Nat.{ℕ, suc, _+_, _-_, _<_, _≤_, max, min}
-use native.Mathlib.Nat.{add-zero}
 use native.Mathlib.Numerals.{add-one}
 use native.Mathlib.Omega.{arith}
 use borrow.Author.Needs.{needs}
@@ -11,15 +10,11 @@ use lib.ListN.{length, set, length-set}
 use lib.Dec.{ltb}
 use Rattle.refusal.specs.Lists.{pick}
 use Rattle.written.specs.Over.{Put}
-use Rattle.written.proofs.Overs.{lay-none}
-use Rattle.written.proofs.Going.{Going, going-start, going-done, going-room, going-turn, put-two}
+use Rattle.written.proofs.Going.{Going, going-start, going-done, going-room, going-turn, put-none, put-pair}
 use Rattle.transitions.specs.Transition.{origin, points, beyond}
 use Rattle.transitions.specs.Intervals.{Span, clip, clipped, clips, gaps, ends}
 use Rattle.transitions.specs.Bytes.{numberAt, pairsAt}
 use Rattle.transitions.proofs.Pairs.{clip-none, clip-one, pairs-turn, pairs-done}
-
-pub put-none : (n : ℕ) (d : List ℕ) → Put [] n d n d
-put-none n d = record { next = sym (add-zero n); is = sym (lay-none n d) }
 
 -- One interval, or none: x and y are its ends, cut to the points
 
@@ -46,7 +41,7 @@ module _ (a b : ℕ) {x y : ℕ} (f : x ≡ a - origin) (g : y ≡ min (b - orig
       span-second = omega (arith, span-room, length-set d n x)
 
       pub span-one : Put (ends (clip a b [])) n d (n + 2) (set (set d n x) (n + 1) y)
-      span-one = rw one-live (put-two x y [] n d (put-none (n + 2) (set (set d n x) (n + 1) y)) (omega (arith, span-room)))
+      span-one = rw one-live (put-pair x y n d span-room)
 
 pub ruleset spans = (needs, span-none, span-one, span-first, span-second)
 
@@ -75,17 +70,21 @@ module _ (w : List ℕ) (left here : ℕ) {low high : ℕ} (n : 0 < left) (a : l
     pub clips-room : Going xs k old (ends (clips (pairsAt w left here))) m out → m + length (ends (clip low (high + 1) [])) ≤ length out
     clips-room g = going-room xs k old (ends (clips (pairsAt w (left - 1) (here + 8)))) m out (ends (clip low (high + 1) [])) (rw clips-open at g)
 
-    pub clips-turn : {r : ℕ} {new : List ℕ} → Put (ends (clip low (high + 1) [])) m out r new → Going xs k old (ends (clips (pairsAt w left here))) m out →
+    pub clips-turn : {r : ℕ} {new : List ℕ} → Put (ends (clip low (high + 1) [])) m out r new →
+        Going xs k old (ends (clips (pairsAt w left here))) m out →
         Going xs k old (ends (clips (pairsAt w (left - 1) (here + 8)))) r new
     clips-turn p g = going-turn xs k old (ends (clips (pairsAt w (left - 1) (here + 8)))) m out (ends (clip low (high + 1) [])) p (rw clips-open at g)
 
     pub gaps-room : (next : ℕ) → Going xs k old (ends (gaps next (pairsAt w left here))) m out → m + length (ends (clip next low [])) ≤ length out
-    gaps-room next g = going-room xs k old (ends (gaps (max next (suc high)) (pairsAt w (left - 1) (here + 8)))) m out (ends (clip next low [])) (rw (gaps-open next refl) at g)
+    gaps-room next g =
+        let rest : List ℕ = ends (gaps (max next (suc high)) (pairsAt w (left - 1) (here + 8))) in
+        going-room xs k old rest m out (ends (clip next low [])) (rw (gaps-open next refl) at g)
 
     pub gaps-turn : (next : ℕ) {after r : ℕ} {new : List ℕ} → Put (ends (clip next low [])) m out r new → after ≡ max next (suc high) →
         Going xs k old (ends (gaps next (pairsAt w left here))) m out →
         Going xs k old (ends (gaps after (pairsAt w (left - 1) (here + 8)))) r new
-    gaps-turn next {after} p e g = going-turn xs k old (ends (gaps after (pairsAt w (left - 1) (here + 8)))) m out (ends (clip next low [])) p (rw (gaps-open next e) at g)
+    gaps-turn next {after} p e g =
+        going-turn xs k old (ends (gaps after (pairsAt w (left - 1) (here + 8)))) m out (ends (clip next low [])) p (rw (gaps-open next e) at g)
 
 module _ (w : List ℕ) (left here : ℕ) (n : left ≤ 0) (xs : List ℕ) (k : ℕ) (old : List ℕ) (m : ℕ) (out : List ℕ) where
   pub clips-done : Going xs k old (ends (clips (pairsAt w left here))) m out → Put xs k old m out

@@ -32,18 +32,6 @@ fn wide(x: u8) -> u64
     x as u64
 }
 
-// The key of the number whose four bytes start at p.
-fn number_at(list: &[u8], p: usize) -> u64
-    requires { ⌜ p + 4 ≤ length (now list) ⌝ }
-    ensures { λ r. ⌜ (r ≡ numberAt (now (list .entry)) p) × (r < 4294967296) ⌝ }
-{
-    let a = wide(list[p]);
-    let b = wide(list[p + 1]);
-    let c = wide(list[p + 2]);
-    let d = wide(list[p + 3]);
-    (a + 256 * b + 65536 * c + 16777216 * d + ORIGIN) % 4294967296
-}
-
 fn size_at(list: &[u8], p: usize) -> usize
     requires { ⌜ p + 2 ≤ length (now list) ⌝ }
     ensures { λ r. ⌜ (r ≡ sizeAt (now (list .entry)) p) × (r < 65536) ⌝ }
@@ -51,6 +39,16 @@ fn size_at(list: &[u8], p: usize) -> usize
     let a = wide(list[p]);
     let b = wide(list[p + 1]);
     (a + 256 * b) as usize
+}
+
+// The key of the number whose four bytes start at p.
+fn number_at(list: &[u8], p: usize) -> u64
+    requires { ⌜ p + 4 ≤ length (now list) ⌝ }
+    ensures { λ r. ⌜ (r ≡ numberAt (now (list .entry)) p) × (r < 4294967296) ⌝ }
+{
+    let low = size_at(list, p);
+    let high = size_at(list, p + 2);
+    ((low + 65536 * high) as u64 + ORIGIN) % 4294967296
 }
 
 // The first key that is left of a not-set, behind the pair that ends with `high`.

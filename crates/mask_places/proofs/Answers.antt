@@ -79,7 +79,8 @@ no-masks s n d q (refused k p) r ns ms out ps e a b o z = record { says = e; low
 
 -- The masks of the list stand: their distinct ones and places, into buffers that hold zeros
 
-module _ (w a b d q : List ℕ) (z : Cleared d q) {got : Masks} {ns ms : List ℕ} (g : Matrix got (length a) ns (length b) ms (parseMasks (length a) (length b) w)) where
+module _ (w a b d q : List ℕ) (z : Cleared d q) {got : Masks} {ns ms : List ℕ}
+    (g : Matrix got (length a) ns (length b) ms (parseMasks (length a) (length b) w)) where
   module _ {c k : ℕ} (i : got ≡ Count c k) where
     of : Each (length a) (length b) w c k ms
     of = each (length a) (length b) w c k ms (parseMasks (length a) (length b) w) refl (ap said (sym i) ∙ g .says) (g .leaves)
@@ -111,7 +112,9 @@ module _ (w a b d q : List ℕ) (z : Cleared d q) {got : Masks} {ns ms : List �
 
     front : chunks c k ms ≡ matrix us
     unfolding padded
-    front = ap₂ (λ (j : ℕ) (t : List ℕ). chunks j k t) (of .masks) (of .leaves) ∙ chunks-flat k (matrix us) (zeros (length b - length (flat (matrix us)))) rows
+    front =
+        ap₂ (λ (j : ℕ) (t : List ℕ). chunks j k t) (of .masks) (of .leaves)
+        ∙ chunks-flat k (matrix us) (zeros (length b - length (flat (matrix us)))) rows
 
     pub distinct-found : {r : ℕ} {out ps : List ℕ} → Gathered (chunks c k ms) d r out q ps →
         Placed (place.Found c r k) (length a) ns (length b) ms (length d) out (length q) ps (parseMasks (length a) (length b) w)
@@ -125,7 +128,8 @@ module _ (w a b d q : List ℕ) (z : Cleared d q) {got : Masks} {ns ms : List �
         s .masks .is ∙ ap₂ (λ (l : List (List ℕ)) (o : List ℕ). lay 0 (flat l) o) is (z .once) ∙ lay-zeros (length d) (flat ds) fits in
         let fit : length (placesOf us) ≤ length q = omega (arith, length-places ds (matrix us), of .masks, many, z .each) in
         let stands : ps ≡ padded (length q) (placesOf us) =
-        s .places ∙ ap₂ (λ (l : List (List ℕ)) (o : List ℕ). lay 0 (placesIn (distinct [] l) l) o) front (z .leaves) ∙ lay-zeros (length q) (placesOf us) fit in
+        s .places ∙ ap₂ (λ (l : List (List ℕ)) (o : List ℕ). lay 0 (placesIn (distinct [] l) l) o) front (z .leaves)
+        ∙ lay-zeros (length q) (placesOf us) fit in
         let size : c ≡ length (starts (cutsOf us)) = of .masks ∙ length-masks us (starts (cutsOf us)) in
         let says : told (place.Found c r k) ≡ foundIn (parsed us) =
         ap₂ {C = Said} (λ x l. ok (x ∷ l)) size (ap₂ {C = List ℕ} (λ x y. x ∷ y ∷ []) (s .masks .count ∙ ap length is) (of .words)) in

@@ -14,7 +14,7 @@ use lib.Seq.{take-add, take-at, drop-at, drop-cons, drop-drop, length-take-le}
 use Rattle.refusal.specs.Lists.{pick, sameList, firstEqual}
 use Rattle.refusal.specs.Fixed.{NONE}
 use Rattle.written.specs.Over.{over, lay, Put}
-use Rattle.written.proofs.Overs.{lay-length, lay-none, lay-lay}
+use Rattle.written.proofs.Overs.{over-front, lay-length, lay-none, lay-lay}
 use Rattle.written.proofs.Going.{Going, going-start, going-place, going-put, going-done}
 use Rattle.transitions.proofs.Order.{le-cases}
 use Rattle.masks.specs.Masks.{flat, isZero, index, addNew, distinct, placeOf, placesIn}
@@ -34,7 +34,8 @@ unfolding chunks flat
 flat-chunks zero words ns = let z : 0 * words ≡ 0 = omega arith in rw z
 flat-chunks (suc k) words ns =
     let e : suc k * words ≡ words + k * words = omega (arith, suc-mul k words) in
-    ap (λ (l : List ℕ). take words ns ++ l) (flat-chunks k words (drop words ns)) ∙ sym (take-add words (k * words) ns) ∙ ap (λ (j : ℕ). take j ns) (sym e)
+    ap (λ (l : List ℕ). take words ns ++ l) (flat-chunks k words (drop words ns)) ∙ sym (take-add words (k * words) ns)
+    ∙ ap (λ (j : ℕ). take j ns) (sym e)
 
 flat-append : (ds es : List (List ℕ)) → flat (ds ++ es) ≡ flat ds ++ flat es
 unfolding flat
@@ -111,7 +112,8 @@ module _ (known ms : List ℕ) (d at words : ℕ) (o : words ≡ 1) where
   pub one-word : d * words ≤ length known → d ≤ length known
   one-word h = omega (arith, ap (λ (k : ℕ). d * k) o)
 
-  pub find-word : {r : ℕ} → at + words ≤ length ms → r ≡ index (chunks d 1 known) (getD ms at 0 ∷ []) → r ≡ index (chunks d words known) (take words (drop at ms))
+  pub find-word : {r : ℕ} → at + words ≤ length ms → r ≡ index (chunks d 1 known) (getD ms at 0 ∷ []) →
+      r ≡ index (chunks d words known) (take words (drop at ms))
   find-word h e =
       let there : at < length ms = omega arith in
       let is : take 1 (drop at ms) ≡ getD ms at 0 ∷ [] = ap (take 1) (drop-cons ms at 0 there) in
@@ -139,7 +141,8 @@ module _ (d words : ℕ) (out m : List ℕ) (h : d * words + words ≤ length ou
   stays = ap (λ (l : List ℕ). over l out) (flat-chunks d words out) ∙ over-take (d * words) out
 
   same-entered : {r : ℕ} → addNew ds m ≡ ds → r ≡ placeOf ds m → Entered ds m out r out
-  same-entered {r} e p = let g : Entered ds m out r (lay 0 (flat (addNew ds m)) out) = record { place = p ∙ ap (λ (l : List (List ℕ)). placeOf l m) (sym e); is = refl } in
+  same-entered {r} e p =
+      let g : Entered ds m out r (lay 0 (flat (addNew ds m)) out) = record { place = p ∙ ap (λ (l : List (List ℕ)). placeOf l m) (sym e); is = refl } in
       subst (Entered ds m out r) (ap (λ (l : List (List ℕ)). lay 0 (flat l) out) e ∙ stays) g
 
   pub add-empty : {b : Bool} → b ≡ isZero m → b ≡ true → Entered ds m out NONE out
@@ -212,20 +215,14 @@ stand-again ds m old =
     (rw append-nil at (over-again (flat ds) [] old))
     (λ _. rw (flat-append ds (m ∷ [])) (over-again (flat ds) (flat (m ∷ [])) old))
 
--- what was written stands in front
-over-front : (xs d : List ℕ) → length xs ≤ length d → over xs d ≡ xs ++ drop (length xs) d
-unfolding over
-over-front [] d h = refl
-over-front (x ∷ xs) [] h = absurd (omega arith)
-over-front (x ∷ xs) (y ∷ d) h = ap (λ (l : List ℕ). x ∷ l) (over-front xs d (omega arith))
-
 pub length-places : (ds ms : List (List ℕ)) → length (placesIn ds ms) ≡ length ms
 unfolding placesIn
 length-places ds [] = refl
 length-places ds (m ∷ ms) = ap suc (length-places ds ms)
 
 -- how many there are behind a mask whose place is known
-count-entered : (ds : List (List ℕ)) (m : List ℕ) (d r : ℕ) → d ≡ length ds → d < 2048 → r ≡ placeOf (addNew ds m) m → pick (eqb r d) (d + 1) d ≡ length (addNew ds m)
+count-entered : (ds : List (List ℕ)) (m : List ℕ) (d r : ℕ) → d ≡ length ds → d < 2048 → r ≡ placeOf (addNew ds m) m →
+    pick (eqb r d) (d + 1) d ≡ length (addNew ds m)
 unfolding addNew
 count-entered ds m d r z h p = go (isZero m) refl
   where
@@ -259,7 +256,8 @@ pub record Gathering (ms : List ℕ) (count words : ℕ) (old olds : List ℕ) (
   pub most : count ≤ 2047
   pub going : Going (placesIn (distinct [] (chunks count words ms)) (chunks count words ms)) 0 olds (placesIn (distinct [] (chunks count words ms)) (chunks left words (drop at ms))) i places
 
-pub gather-start : (ms : List ℕ) (count words : ℕ) (old olds : List ℕ) → Spaced ms count words old olds → Gathering ms count words old olds count 0 0 0 old olds
+pub gather-start : (ms : List ℕ) (count words : ℕ) (old olds : List ℕ) → Spaced ms count words old olds →
+    Gathering ms count words old olds count 0 0 0 old olds
 unfolding flat
 gather-start ms count words old olds s =
     record {
@@ -277,7 +275,8 @@ gather-start ms count words old olds s =
           (omega (arith, length-places (distinct [] (chunks count words ms)) (chunks count words ms), length-chunks count words ms, s .each));
     }
 
-module _ (ms : List ℕ) (count words : ℕ) (old olds : List ℕ) (left at d i : ℕ) (out places : List ℕ) (g : Gathering ms count words old olds left at d i out places) where
+module _ (ms : List ℕ) (count words : ℕ) (old olds : List ℕ) (left at d i : ℕ) (out places : List ℕ)
+    (g : Gathering ms count words old olds left at d i out places) where
   abbrev all : List (List ℕ)
   all = chunks count words ms
 
@@ -305,7 +304,8 @@ module _ (ms : List ℕ) (count words : ℕ) (old olds : List ℕ) (left at d i 
     stand : chunks d words out ≡ g .ds
     unfolding lay
     stand =
-        let fits : length (flat (g .ds)) ≤ length old = omega (arith, length-flat words (g .ds) (g .wide), ap (λ (k : ℕ). k * words) (g .size), gather-room, g .long) in
+        let fits : length (flat (g .ds)) ≤ length old =
+        omega (arith, length-flat words (g .ds) (g .wide), ap (λ (k : ℕ). k * words) (g .size), gather-room, g .long) in
         let front : out ≡ flat (g .ds) ++ drop (length (flat (g .ds))) old = g .is ∙ over-front (flat (g .ds)) old fits in
         ap₂ (λ (k : ℕ) (l : List ℕ). chunks k words l) (g .size) front ∙ chunks-flat words (g .ds) (drop (length (flat (g .ds))) old) (g .wide)
 
@@ -318,7 +318,8 @@ module _ (ms : List ℕ) (count words : ℕ) (old olds : List ℕ) (left at d i 
     placing = subst (λ (l : List (List ℕ)). Going (placesIn (distinct [] all) all) 0 olds (placesIn (distinct [] all) l) i places) opened (g .going)
 
     pub gather-place : i < length places
-    gather-place = going-place (placesIn (distinct [] all) all) 0 olds (placesIn (distinct [] all) (chunks (left - 1) words (drop (at + words) ms))) i places (placeOf (distinct [] all) m) placing
+    gather-place =
+        going-place (placesIn (distinct [] all) all) 0 olds (placesIn (distinct [] all) (chunks (left - 1) words (drop (at + words) ms))) i places (placeOf (distinct [] all) m) placing
 
     pub gather-turn : {r e : ℕ} {new : List ℕ} → Entered (chunks d words out) m out r new → e ≡ pick (eqb r d) (d + 1) d →
         Gathering ms count words old olds (left - 1) (at + words) e (i + 1) new (set places i r)

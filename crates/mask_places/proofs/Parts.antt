@@ -16,7 +16,8 @@ use Rattle.masks.specs.Masks.{isZero}
 
 -- The first word and the others
 
-part-open : (ns : List ℕ) (p left : ℕ) → 0 < left → p + left ≤ length ns → take left (drop p ns) ≡ getD ns p 0 ∷ take (left - 1) (drop (p + 1) ns)
+part-open : (ns : List ℕ) (p left : ℕ) → 0 < left → p + left ≤ length ns →
+    take left (drop p ns) ≡ getD ns p 0 ∷ take (left - 1) (drop (p + 1) ns)
 part-open ns p left n h =
     let one : suc p ≡ p + 1 = omega arith in
     let more : left ≡ suc (left - 1) = omega arith in
@@ -61,7 +62,8 @@ module _ (ns ms : List ℕ) (p q left : ℕ) {all : Bool} (i : sameList (take le
 
 -- It is copied
 
-module _ (ns : List ℕ) (p left : ℕ) (xs : List ℕ) (k : ℕ) (old : List ℕ) (m : ℕ) (out : List ℕ) (g : Going xs k old (take left (drop p ns)) m out) where
+module _ (ns : List ℕ) (p left : ℕ) (xs : List ℕ) (k : ℕ) (old : List ℕ) (m : ℕ) (out : List ℕ)
+    (g : Going xs k old (take left (drop p ns)) m out) where
   module _ (n : 0 < left) (h : p + left ≤ length ns) where
     pub copy-room : m < length out
     copy-room = going-place xs k old (take (left - 1) (drop (p + 1) ns)) m out (getD ns p 0) (rw (part-open ns p left n h) at g)

@@ -1,5 +1,5 @@
 -- The laws of the call for a mask of each segment. w is the list's bytes, x the list. Assumes nothing.
-use mathlib.Core.Path.{_≡_, refl, sym, ap, ap₂, subst, _∙_}
+use mathlib.Core.Path.{_≡_, refl, sym, ap, ap₂, _∙_}
 use mathlib.Core.List.{List, [], _∷_, _++_}
 use mathlib.Core.Bool.{true}
 use Prim.Native.Nat.{ℕ, zero, suc, _+_, _*_, _-_, _/_, _<_, _≤_}
@@ -19,9 +19,9 @@ use Rattle.transitions.specs.declared.Transitions.the-variants as told
 use Rattle.transitions.specs.Transition.{Transition}
 use Rattle.transitions.specs.Read.{Parsed, parsed, refused, parseFrom, parse, isParsed, accepted}
 use Rattle.transitions.specs.Read as list
-use Rattle.transitions.specs.Walk.{nextAt, transFrom, Sound}
+use Rattle.transitions.specs.Walk.{transFrom, Fit}
 use Rattle.transitions.proofs.Order.{le-cases}
-use Rattle.transitions.proofs.Accepted.{AllInOrder, Listed, listed, ended, walk}
+use Rattle.transitions.proofs.Accepted.{Listed, listed, ended, walk}
 use Rattle.segments.specs.declared.Segments.{Segments}
 use Rattle.segments.specs.declared.Segments.the-variants as found
 use Rattle.segments.specs.Segments.{cutsOf, starts, startsFrom, segments, segmentsFrom}
@@ -33,7 +33,7 @@ use Rattle.masks.specs.declared.Masks.the-variants.{Count, Refused}
 use Rattle.masks.specs.declared.Places.{Places}
 use Rattle.masks.specs.declared.Places.the-variants as place
 use Rattle.masks.specs.Masks.{wordsFor, maskOf, masksAt, matrix, flat}
-use Rattle.masks.specs.Walk.{Fit, lows}
+use Rattle.masks.specs.Walk.{lows}
 use Rattle.masks.specs.Answer.{said, told, parseMasks, counted, masksIn, Matrix, Ready}
 use Rattle.masks.proofs.Packs.{length-masks, length-matrix}
 
@@ -59,13 +59,6 @@ few-from w =
     let one : suc left - 1 ≡ left = omega arith in
     let is = rw one at (t .is) in
     rw is (omega arith))
-
--- Its records are whole and in order
-
-fit : (w : List ℕ) (n at : ℕ) → Sound w n at → AllInOrder (transFrom w n at) → Fit w n at
-unfolding Sound Fit transFrom
-fit w zero at s o = tt
-fit w (suc n) at s o = (s .0, s .1, o .0, fit w n (nextAt w at) (s .2) (o .1))
 
 -- The segments that stand: at every second number a start
 
@@ -93,7 +86,8 @@ lows-in n (refused k p) h = let z : _≡_ {A = ℕ} 0 1 = cc in absurd (omega ar
 
 -- The masks of an accepted list, written into a buffer of zeros
 
-is-matrix : (s n c k : ℕ) (x : Parsed) (ns out : List ℕ) → isParsed x ≡ true → c ≡ length (starts (cutsOf (accepted x))) → k ≡ length (accepted x) →
+is-matrix : (s n c k : ℕ) (x : Parsed) (ns out : List ℕ) → isParsed x ≡ true → c ≡ length (starts (cutsOf (accepted x))) →
+    k ≡ length (accepted x) →
     ns ≡ segmentsIn s x → out ≡ padded n (flat (matrix (accepted x))) → Matrix (Count c ((k + 63) / 64)) s ns n out x
 unfolding isParsed accepted counted masksIn
 is-matrix s n c k (parsed ts) ns out h a b l o =
@@ -129,7 +123,7 @@ module _ (w ns : List ℕ) (count : ℕ) (d : List ℕ) (r : Ready w ns count d)
       omega (arith, length-matrix ts (starts (cutsOf ts)), mul-le-mul-left (length (starts (cutsOf ts))) four, few-segments w, r .room)
 
   pub fill-sound : Fit w n 0
-  fill-sound = rw e (fit w (length ts) 0 (all .sound) (subst AllInOrder (all .is) (all .order)))
+  fill-sound = rw e (all .fit)
 
   pub fill-empty : d ≡ zeros (length d)
   fill-empty = r .empty
@@ -179,7 +173,8 @@ some-of n w {k} e =
     (λ h. let s = some (parse w) (e ∙ ap seg.counted (roomy n w h)) in record { good = s .0; size = s .1; room = h; is = roomy n w h })
     (λ h. let f = e ∙ ap seg.counted (short n w h) in let z : _≡_ {A = ℕ} 0 1 = cc in absurd (omega arith))
 
-none-of : (s n : ℕ) (x : Parsed) (r : Refusal) (ns d : List ℕ) → seg.said (found.Refused r) ≡ seg.counted x → ns ≡ segmentsIn s x → d ≡ zeros n →
+none-of : (s n : ℕ) (x : Parsed) (r : Refusal) (ns d : List ℕ) → seg.said (found.Refused r) ≡ seg.counted x → ns ≡ segmentsIn s x →
+    d ≡ zeros n →
     Matrix (Refused r) s ns n d x
 unfolding seg.counted counted masksIn
 none-of s n (parsed ts) r ns d e l z = let f : _≡_ {A = ℕ} 0 1 = cc in absurd (omega arith)
@@ -205,9 +200,9 @@ module _ (w a b : List ℕ) {d : List ℕ} (z : d ≡ zeros (length b)) where
   no-room l s = let h : length b < 8192 = omega (arith, size) in rw (lt-ltb (length b) 8192 h) (record { says = refl; low-high = s; leaves = z })
 
   module _ (l : 8192 ≤ length d) {got : Segments} {ns : List ℕ} (h : seg.Writes got (length a) ns (parseFor (length a) w)) where
-    behind : parseMasks (length a) (length b) w ≡ parseFor (length a) w
+    asked : parseMasks (length a) (length b) w ≡ parseFor (length a) w
     unfolding parseMasks
-    behind = let g : 8192 ≤ length b = omega (arith, size) in rw (le-ltb (length b) 8192 g)
+    asked = let g : 8192 ≤ length b = omega (arith, size) in rw (le-ltb (length b) 8192 g)
 
     module _ {k : ℕ} (e : got ≡ found.Count k) where
       is : Some (length a) w k
@@ -229,10 +224,10 @@ module _ (w a b : List ℕ) {d : List ℕ} (z : d ≡ zeros (length b)) where
 
       pub matrix-found : {r : Masks} {out : List ℕ} → Matrix r (length ns) ns (length d) out (parse w) →
           Matrix r (length a) ns (length b) out (parseMasks (length a) (length b) w)
-      matrix-found m = rw (behind, is .is, ← same, ← size) m
+      matrix-found m = rw (asked, is .is, ← same, ← size) m
 
     pub matrix-refused : {r : Refusal} → got ≡ found.Refused r → Matrix (Refused r) (length a) ns (length b) d (parseMasks (length a) (length b) w)
-    matrix-refused {r} e = rw behind (none-of (length a) (length b) (parseFor (length a) w) r ns d (ap seg.said (sym e) ∙ h .says) (h .leaves) z)
+    matrix-refused {r} e = rw asked (none-of (length a) (length b) (parseFor (length a) w) r ns d (ap seg.said (sym e) ∙ h .says) (h .leaves) z)
 
 pub ruleset answering = (needs, length-replicate, no-room, ready, matrix-found, matrix-refused)
 

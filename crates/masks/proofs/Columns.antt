@@ -13,9 +13,9 @@ use mir.Syntax.{w64}
 use Rattle.written.specs.Over.{over, lay, Put, zeros}
 use Rattle.transitions.specs.Transition.{Transition, origin, holds, holdAt, inOrder}
 use Rattle.transitions.specs.Bytes.{sizeAt, shapeOf, transOf}
-use Rattle.transitions.specs.Walk.{transAt, nextAt, transFrom}
+use Rattle.transitions.specs.Walk.{transAt, nextAt, transFrom, Fit}
 use Rattle.masks.specs.Masks.{bit, wordOf, pack, wordsFor, maskOf, masksAt, flat}
-use Rattle.masks.specs.Walk.{Fit, nextOf, byLow, Covers, lows, column, stacked, Columned}
+use Rattle.masks.specs.Walk.{nextOf, byLow, Covers, lows, column, stacked, Columned}
 use Rattle.masks.proofs.Packs.{length-hold, word-lt, length-matrix}
 use Rattle.masks.proofs.Holds.{tells-none, held-is}
 use Rattle.masks.proofs.Words.{first, length-trans, word-value, word-shape, word-order}
@@ -111,7 +111,8 @@ stacked-word [] p ps xs = refl
 stacked-word (t ∷ ts) p ps xs = ap (column t (p ∷ ps)) (stacked-word ts p ps xs)
 
 module _ (ts : List Transition) where
-  stacked-small : length ts ≤ 63 → (ps : List ℕ) (n : ℕ) → length ps ≤ n → (i : ℕ) → i < length ps → getD (stacked ts ps (zeros n)) i 0 < 2 ^ 63
+  stacked-small : length ts ≤ 63 → (ps : List ℕ) (n : ℕ) → length ps ≤ n → (i : ℕ) → i < length ps →
+      getD (stacked ts ps (zeros n)) i 0 < 2 ^ 63
   stacked-small f [] n r i h = absurd (omega arith)
   stacked-small f (p ∷ ps) zero r i h = absurd (omega arith)
   stacked-small f (p ∷ ps) (suc n) r zero h = rw (stacked-word ts p ps (zeros n)) (word-lt ts p f)
@@ -150,7 +151,8 @@ pub record Columning (w : List ℕ) (n : ℕ) (ns : List ℕ) (count : ℕ) (old
   pub size : length out ≡ length old
   pub is : out ≡ stacked (transFrom w (n - i) (nextOf w i 0)) (lows ns count 0) old
 
-pub column-start : (w : List ℕ) (n : ℕ) (ns : List ℕ) (count : ℕ) (old : List ℕ) → old ≡ zeros (length old) → n ≤ 64 → count ≤ length old →
+pub column-start : (w : List ℕ) (n : ℕ) (ns : List ℕ) (count : ℕ) (old : List ℕ) → old ≡ zeros (length old) → n ≤ 64 →
+    count ≤ length old →
     Columning w n ns count old n old
 unfolding transFrom stacked
 column-start w n ns count old z f r =

@@ -12,27 +12,13 @@ use Rattle.refusal.specs.Lists.{pick}
 use Rattle.transitions.specs.Transition.{Transition, atom, pairHas, anyHas, holds, origin, orderly, inOrder}
 use Rattle.transitions.specs.Bytes.{numberAt, pairsAt, shapeOf, transOf}
 use Rattle.transitions.proofs.Order.{le-cases, both}
+use Rattle.transitions.proofs.Holds.{Ordered, ordered}
 use Rattle.transitions.proofs.Pairs.{pairs-turn, pairs-done}
 use Rattle.transitions.proofs.Tags.{shape-2, value-1, trans-1, trans-2, trans-3, trans-4, trans-5}
 use Rattle.masks.specs.Masks.{bit}
 use Rattle.masks.specs.Walk.{lowAt, highAt, Rises, Passed, Reach, Floor, last, Spans, byLow, Tells, Covers}
 
--- The pairs of a set in order: one step, and any two
-
-record Step (w : List ℕ) (f n p : ℕ) : Type 0 where
-  low : f ≤ numberAt w p
-  high : numberAt w p ≤ numberAt w (p + 4)
-  rest : orderly (numberAt w (p + 4) + 1) (pairsAt w n (p + 8)) ≡ true
-
-step : (w : List ℕ) (f n p : ℕ) → orderly f (pairsAt w (suc n) p) ≡ true → Step w f n p
-unfolding orderly pairsAt
-step w f n p e =
-    le-cases f (numberAt w p)
-    (λ h.
-    le-cases (numberAt w p) (numberAt w (p + 4))
-    (λ g. record { low = h; high = g; rest = rw (le-ltb (numberAt w p) f h, le-ltb (numberAt w (p + 4)) (numberAt w p) g) at e })
-    (λ g. let z : _≡_ {A = ℕ} 0 1 = cc (rw (le-ltb (numberAt w p) f h, lt-ltb (numberAt w (p + 4)) (numberAt w p) g) at e) in absurd (omega arith)))
-    (λ h. let z : _≡_ {A = ℕ} 0 1 = cc (rw (lt-ltb (numberAt w p) f h) at e) in absurd (omega arith))
+-- Any two pairs of a set in order
 
 module _ (w : List ℕ) where
   later-low : (p k : ℕ) → lowAt w (p + 8) k ≡ lowAt w p (suc k)
@@ -47,38 +33,41 @@ module _ (w : List ℕ) where
   first-high : (p : ℕ) → highAt w p 0 ≡ numberAt w (p + 4)
   first-high p = let e : p + 8 * 0 + 4 ≡ p + 4 = omega arith in ap (numberAt w) e
 
-  all-above : (n f p : ℕ) → orderly f (pairsAt w n p) ≡ true → (k : ℕ) → k < n → f ≤ lowAt w p k
+  all-above : (n f p : ℕ) → Ordered f (pairsAt w n p) → (k : ℕ) → k < n → f ≤ lowAt w p k
+  unfolding pairsAt
   all-above zero f p o k h = absurd (omega arith)
-  all-above (suc n) f p o zero h = omega (arith, step w f n p o .low, first-low p)
-  all-above (suc n) f p o (suc k) h =
-      let s : Step w f n p = step w f n p o in
-      omega (arith, s .low, s .high, all-above n (numberAt w (p + 4) + 1) (p + 8) (s .rest) k (omega arith), later-low p k)
+  all-above (suc n) f p o zero h = omega (arith, o .0, first-low p)
+  all-above (suc n) f p o (suc k) h = omega (arith, o .0, o .1, all-above n (suc (numberAt w (p + 4))) (p + 8) (o .2) k (omega arith), later-low p k)
 
-  proper : (n f p : ℕ) → orderly f (pairsAt w n p) ≡ true → (k : ℕ) → k < n → lowAt w p k ≤ highAt w p k
+  proper : (n f p : ℕ) → Ordered f (pairsAt w n p) → (k : ℕ) → k < n → lowAt w p k ≤ highAt w p k
+  unfolding pairsAt
   proper zero f p o k h = absurd (omega arith)
-  proper (suc n) f p o zero h = omega (arith, step w f n p o .high, first-low p, first-high p)
-  proper (suc n) f p o (suc k) h =
-      omega (arith, proper n (numberAt w (p + 4) + 1) (p + 8) (step w f n p o .rest) k (omega arith), later-low p k, later-high p k)
+  proper (suc n) f p o zero h = omega (arith, o .1, first-low p, first-high p)
+  proper (suc n) f p o (suc k) h = omega (arith, proper n (suc (numberAt w (p + 4))) (p + 8) (o .2) k (omega arith), later-low p k, later-high p k)
 
-  apart : (n f p : ℕ) → orderly f (pairsAt w n p) ≡ true → (i k : ℕ) → i < k → k < n → highAt w p i < lowAt w p k
+  apart : (n f p : ℕ) → Ordered f (pairsAt w n p) → (i k : ℕ) → i < k → k < n → highAt w p i < lowAt w p k
+  unfolding pairsAt
   apart zero f p o i k l h = absurd (omega arith)
   apart (suc n) f p o i zero l h = absurd (omega arith)
   apart (suc n) f p o zero (suc k) l h =
-      omega (arith, all-above n (numberAt w (p + 4) + 1) (p + 8) (step w f n p o .rest) k (omega arith), later-low p k, first-high p)
+      omega (arith, all-above n (suc (numberAt w (p + 4))) (p + 8) (o .2) k (omega arith), later-low p k, first-high p)
   apart (suc n) f p o (suc i) (suc k) l h =
       omega (
         arith,
-        apart n (numberAt w (p + 4) + 1) (p + 8) (step w f n p o .rest) i k (omega arith) (omega arith),
+        apart n (suc (numberAt w (p + 4))) (p + 8) (o .2) i k (omega arith) (omega arith),
         later-high p i,
         later-low p k,
       )
 
   rising : (n p : ℕ) → orderly 0 (pairsAt w n p) ≡ true → Rises w n p
-  rising n p o = record { apart = apart n 0 p o; each = λ i k l h. omega (arith, apart n 0 p o i k l h, proper n 0 p o k h) }
+  rising n p e =
+      let o : Ordered 0 (pairsAt w n p) = ordered 0 (pairsAt w n p) e in
+      record { apart = apart n 0 p o; each = λ i k l h. omega (arith, apart n 0 p o i k l h, proper n 0 p o k h) }
 
   -- Those that end before the key do not hold it, nor do those that start behind it
 
-  any-skip : (q r n p : ℕ) → r ≤ n → ((i : ℕ) → i < r → highAt w p i < q) → anyHas (pairsAt w n p) q ≡ anyHas (pairsAt w (n - r) (p + 8 * r)) q
+  any-skip : (q r n p : ℕ) → r ≤ n → ((i : ℕ) → i < r → highAt w p i < q) →
+      anyHas (pairsAt w n p) q ≡ anyHas (pairsAt w (n - r) (p + 8 * r)) q
   unfolding anyHas pairsAt
   any-skip q zero n p l h =
       let e : n - 0 ≡ n = omega arith in
@@ -105,7 +94,8 @@ module _ (w : List ℕ) (n p q : ℕ) where
   pub seek-none : Passed w n p q 0
   seek-none = record { within = omega arith; before = λ i l. absurd (omega arith) }
 
-  pub seek-hint : (hint : ℕ) {x : ℕ} → Rises w n p → (hint ≡ 0 → ⊥) → hint ≤ n → x ≡ numberAt w (p + 8 * (hint - 1) + 4) → x < q → Passed w n p q hint
+  pub seek-hint : (hint : ℕ) {x : ℕ} → Rises w n p → (hint ≡ 0 → ⊥) → hint ≤ n → x ≡ numberAt w (p + 8 * (hint - 1) + 4) →
+      x < q → Passed w n p q hint
   seek-hint hint {x} o z l e h = record { within = l; before = before }
     where
       before : (i : ℕ) → i < hint → highAt w p i < q
@@ -230,7 +220,8 @@ tag-cases : {C : Type 0} (a b : ℕ) → (a ≡ b → C) → ((a ≡ b → ⊥) 
 tag-cases a b f g = ⊎-elim (λ (e : eqb a b ≡ true). f (eqb-true a b e)) (λ (e : eqb a b ≡ false). g (eqb-false a b e)) (both (eqb a b))
 
 -- whatever is no atom, range, set or not-set is a wildcard
-wildcard-shape : (tag size : ℕ) → (tag ≡ 1 → ⊥) → (tag ≡ 2 → ⊥) → (tag ≡ 3 → ⊥) → (tag ≡ 4 → ⊥) → shapeOf tag size ≡ true → (tag ≡ 5) × (size ≡ 0)
+wildcard-shape : (tag size : ℕ) → (tag ≡ 1 → ⊥) → (tag ≡ 2 → ⊥) → (tag ≡ 3 → ⊥) → (tag ≡ 4 → ⊥) →
+    shapeOf tag size ≡ true → (tag ≡ 5) × (size ≡ 0)
 unfolding shapeOf
 wildcard-shape tag size a b c d s = go (eqb tag 5) refl (rw (ne-eqb tag 1 a, ne-eqb tag 2 b, ne-eqb tag 3 c, ne-eqb tag 4 d) at s)
   where
@@ -288,7 +279,8 @@ module _ (w : List ℕ) (tag size p : ℕ) where
     pub find-atom : {x : ℕ} → tag ≡ 1 → x ≡ numberAt w p → Covers (atom x) 1 q floor low high → Covers (transOf w tag size p) tag q floor low high
     find-atom h e g = rw (trans-1 w tag size p h, h, ← e) g
 
-    pub find-pairs : (tag ≡ 1 → ⊥) → shapeOf tag size ≡ true → Spans w (size / 8) p q floor low high → Covers (transOf w tag size p) tag q floor low high
+    pub find-pairs : (tag ≡ 1 → ⊥) → shapeOf tag size ≡ true → Spans w (size / 8) p q floor low high →
+        Covers (transOf w tag size p) tag q floor low high
     unfolding byLow
     find-pairs a s g =
         record {
@@ -315,7 +307,8 @@ module _ (t : Transition) (tag : ℕ) where
     pub still-covers : Tells t tag floor low high → floor ≤ q → q ≤ high → Covers t tag q floor low high
     still-covers s a b = record { tells = s; from = a; to = b }
 
-    pub held-is : (point : ℕ) {b : ℕ} → q ≡ point + origin → Covers t tag q floor low high → b ≡ bit (byLow tag low q) → b ≡ bit (holds t point)
+    pub held-is : (point : ℕ) {b : ℕ} → q ≡ point + origin → Covers t tag q floor low high → b ≡ bit (byLow tag low q) →
+        b ≡ bit (holds t point)
     held-is point e c g = g ∙ ap bit (ap (byLow tag low) e ∙ sym (c .tells .each point (omega (arith, c .from)) (omega (arith, c .to))))
 
 pub ruleset telling = (needs, still-covers, held-is)

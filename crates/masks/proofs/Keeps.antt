@@ -35,7 +35,8 @@ has-last (d ∷ ds) m = go (sameList d m) (has-last ds m)
     go false k = omega arith
 
 -- a fact of the masks ds, and of these with m behind them where it is new, is one of what adding m leaves
-pub add-cases : (P : List (List ℕ) → Type 0) (ds : List (List ℕ)) (m : List ℕ) → P ds → (length ds ≤ index ds m → P (ds ++ (m ∷ []))) → P (addNew ds m)
+pub add-cases : (P : List (List ℕ) → Type 0) (ds : List (List ℕ)) (m : List ℕ) → P ds →
+    (length ds ≤ index ds m → P (ds ++ (m ∷ []))) → P (addNew ds m)
 unfolding addNew
 add-cases P ds m a b = go (isZero m)
   where

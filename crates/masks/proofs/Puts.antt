@@ -10,10 +10,10 @@ use lib.Seq.{take-all}
 use Rattle.written.specs.Over.{Put}
 use Rattle.written.proofs.Going.{Going, going-start, going-done, going-room, going-turn, going-place, going-put}
 use Rattle.transitions.specs.Transition.{Transition, holds, holdAt}
-use Rattle.transitions.specs.Walk.{transAt, nextAt, transFrom}
+use Rattle.transitions.specs.Walk.{transAt, nextAt, transFrom, Fit}
 use Rattle.transitions.proofs.Order.{le-cases}
 use Rattle.masks.specs.Masks.{wordOf, pack, wordsFor, maskOf, masksAt, flat}
-use Rattle.masks.specs.Walk.{Fit, nextOf, lows}
+use Rattle.masks.specs.Walk.{nextOf, lows}
 use Rattle.masks.proofs.Packs.{length-hold}
 use Rattle.masks.proofs.Words.{length-trans}
 
@@ -62,9 +62,9 @@ module _ (w : List ℕ) (left at point : ℕ) {few : ℕ} (n : 0 < left) (f : fe
       let e : few ≡ left = omega arith in
       rw e (take-all 64 (holdAt (transFrom w left at) point) (omega (arith, size))))
 
-  behind : drop 64 (holdAt (transFrom w left at) point) ≡ holdAt (transFrom w (left - few) (nextOf w few at)) point
+  others : drop 64 (holdAt (transFrom w left at) point) ≡ holdAt (transFrom w (left - few) (nextOf w few at)) point
   unfolding holdAt transFrom
-  behind =
+  others =
       le-cases 64 left
       (λ h. let e : few ≡ 64 = omega arith in rw e (drop-hold w point 64 (left - 64) left at (omega arith)))
       (λ h.
@@ -78,11 +78,12 @@ module _ (w : List ℕ) (left at point : ℕ) {few : ℕ} (n : 0 < left) (f : fe
       let a : length (transFrom w left at) ≡ left = length-trans w left at in
       let b : length (transFrom w (left - few) (nextOf w few at)) ≡ left - few = length-trans w (left - few) (nextOf w few at) in
       let c : wordsFor left ≡ suc (wordsFor (left - few)) = omega arith in
-      rw (a, b, c) (ap₂ {C = List ℕ} (λ x y. wordOf x ∷ pack (wordsFor (left - few)) y) front behind)
+      rw (a, b, c) (ap₂ {C = List ℕ} (λ x y. wordOf x ∷ pack (wordsFor (left - few)) y) front others)
 
   module _ (xs : List ℕ) (k : ℕ) (old : List ℕ) (m : ℕ) (out : List ℕ) (g : Going xs k old (maskOf (transFrom w left at) point) m out) where
     pub mask-room : m < length out
-    mask-room = going-place xs k old (maskOf (transFrom w (left - few) (nextOf w few at)) point) m out (wordOf (holdAt (transFrom w few at) point)) (rw mask-open at g)
+    mask-room =
+        going-place xs k old (maskOf (transFrom w (left - few) (nextOf w few at)) point) m out (wordOf (holdAt (transFrom w few at) point)) (rw mask-open at g)
 
     pub mask-turn : {x next : ℕ} → x ≡ wordOf (holdAt (transFrom w few at) point) → next ≡ nextOf w few at →
         Going xs k old (maskOf (transFrom w (left - few) next) point) (m + 1) (set out m x)

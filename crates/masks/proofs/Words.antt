@@ -11,9 +11,9 @@ use mir.Val.{Fits}
 use mir.Syntax.{w64}
 use Rattle.transitions.specs.Transition.{holds, holdAt, inOrder}
 use Rattle.transitions.specs.Bytes.{sizeAt, shapeOf, transOf}
-use Rattle.transitions.specs.Walk.{transAt, nextAt, transFrom}
+use Rattle.transitions.specs.Walk.{transAt, nextAt, transFrom, Fit}
 use Rattle.masks.specs.Masks.{bit, wordOf}
-use Rattle.masks.specs.Walk.{Fit, nextOf}
+use Rattle.masks.specs.Walk.{nextOf}
 use Rattle.masks.proofs.Packs.{word-lt}
 
 -- The first of n records, and the others

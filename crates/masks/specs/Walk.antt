@@ -7,16 +7,10 @@ use mathlib.Core.List.{List, [], _∷_}
 use lib.ListN.{length, getD}
 use lib.Dec.{leb, ltb}
 use Rattle.refusal.specs.Lists.{pick}
-use Rattle.transitions.specs.Transition.{Transition, origin, anyHas, holds, inOrder}
-use Rattle.transitions.specs.Bytes.{sizeAt, numberAt, pairsAt, shapeOf}
-use Rattle.transitions.specs.Walk.{transAt, nextAt}
+use Rattle.transitions.specs.Transition.{Transition, origin, anyHas, holds}
+use Rattle.transitions.specs.Bytes.{numberAt, pairsAt}
+use Rattle.transitions.specs.Walk.{nextAt}
 use Rattle.masks.specs.Masks.{bit}
-
--- k records stand from `at` on, whole, each of its tag's length and in order
-unfoldable pub Fit : List ℕ → ℕ → ℕ → Type 0
-Fit w zero at = Unit {0}
-Fit w (suc k) at =
-    (nextAt w at ≤ length w) × (shapeOf (getD w at 0) (sizeAt w (at + 1)) ≡ true) × (inOrder (transAt w at) ≡ true) × Fit w k (nextAt w at)
 
 -- where the record stands that comes k records behind the one at `at`
 unfoldable pub nextOf : List ℕ → ℕ → ℕ → ℕ

@@ -12,6 +12,7 @@ use borrow.Author.Tests.{eqb-true, lt-ltb, le-ltb}
 use Rattle.refusal.proofs.Lists.{equal-same}
 use Rattle.refusal.specs.Lists.{pick, sameList, firstEqual}
 use Rattle.written.specs.Over.{over, lay}
+use Rattle.written.proofs.Overs.{over-front}
 use Rattle.pools.specs.Pools.{Kind, ascii, wide, standing, sizeAt, rowsFrom, behind, good, countable, found, firstIn, findOrAppend, intern}
 use Rattle.pools.proofs.Rows.{behind-≥, threes-length}
 
@@ -75,12 +76,6 @@ first-last row (r ∷ rs) h = cases (sameList r row) h (first-last row rs) where
 size-laid : (k : Kind) (p row r : List ℕ) → good k row ≡ true → sizeAt k (p ++ (standing k row ++ r)) (length p) ≡ length (standing k row)
 size-laid ascii p row r g = sym (eqb-true (length row) 128 g)
 size-laid wide p row r g = rw (getD-append-seam p (length row / 3) (row ++ r) 0) (omega (arith, threes-length row g))
-
-over-front : (xs d : List ℕ) → length xs ≤ length d → over xs d ≡ xs ++ drop (length xs) d
-unfolding over
-over-front [] d h = refl
-over-front (x ∷ xs) [] h = absurd (omega arith)
-over-front (x ∷ xs) (y ∷ d) h = ap (λ (l : List ℕ). x ∷ l) (over-front xs d (omega arith))
 
 module _ (k : Kind) (p q r : List ℕ) (n : ℕ) (row : List ℕ) (e : behind k (p ++ q) n 0 ≡ length p) (g : good k row ≡ true) where
   abbrev v : List ℕ

@@ -25,11 +25,11 @@ use Rattle.interval_ends.specs.Ends as into
 use Rattle.transitions.proofs.Accepted.{length-ends, most-ends}
 use Rattle.segments.specs.declared.Segments.{Segments}
 use Rattle.segments.specs.declared.Segments.the-variants.{Count, Refused}
-use Rattle.segments.specs.Segments.{cutAll, cutsOf, starts, startsFrom, segments, segmentsFrom}
+use Rattle.segments.specs.Segments.{cutAll, cutsOf, starts, startsFrom, segments}
 use Rattle.segments.specs.Sort.{insertAll, Sorted}
 use Rattle.segments.specs.Answer.{said, parseFor, counted, segmentsIn, Writes, cutsCounted, Cuts}
 use Rattle.segments.proofs.Inserts.{length-insertAll}
-use Rattle.segments.proofs.Puts.{cut-all}
+use Rattle.segments.proofs.Puts.{length-from, cut-all}
 
 length-endsAll : (ts : List Transition) → length (endsAll ts) ≡ 2 * total ts
 unfolding endsAll total
@@ -117,9 +117,14 @@ module _ (w : List ℕ) (n : ℕ) {got : Transitions} {one : List ℕ} (s : n �
     pub cut-read : {m : ℕ} {two : List ℕ} → Sorted one (k + k) m two → Cuts (Count m) two (parse w)
     unfolding cutsOf
     cut-read {m} {two} t =
-        let all : insertAll (take (k + k) one) [] ≡ cutsOf (accepted (parse w)) = ap (λ (d : List ℕ). insertAll d []) front ∙ cut-all (accepted (parse w)) [] in
+        let all : insertAll (take (k + k) one) [] ≡ cutsOf (accepted (parse w)) =
+        ap (λ (d : List ℕ). insertAll d []) front ∙ cut-all (accepted (parse w)) [] in
         let size : m ≡ length (cutsOf (accepted (parse w))) = t .size ∙ ap length all in
-        record { says = says-cuts (parse w) m (read .good) size; front = ap (λ (a : ℕ). take a two) (sym size) ∙ t .is ∙ all; size = t .len ∙ one-size }
+        record {
+          says = says-cuts (parse w) m (read .good) size;
+          front = ap (λ (a : ℕ). take a two) (sym size) ∙ t .is ∙ all;
+          size = t .len ∙ one-size;
+        }
 
   pub cut-refused : {r : Refusal} → got ≡ told.Refused r → Cuts (Refused r) one (parse w)
   cut-refused {r} e = no-cuts (parse w) r one (ap list.said (sym e) ∙ told-is) one-size
@@ -128,20 +133,15 @@ pub ruleset cutting = (needs, cut-fits, cut-room, cut-read, cut-refused)
 
 -- The segments: two numbers for each start
 
-length-startsFrom : (c : ℕ) (cs : List ℕ) → length (segmentsFrom c cs) ≡ 2 * length (startsFrom c cs)
-unfolding segmentsFrom startsFrom
-length-startsFrom c [] = refl
-length-startsFrom c (n ∷ ns) = omega (arith, length-startsFrom n ns)
-
-pub length-starts : (cs : List ℕ) → length (segments cs) ≡ 2 * length (starts cs)
-unfolding segments starts
-length-starts [] = refl
-length-starts (c ∷ cs) = length-startsFrom c cs
-
 each-start : (c : ℕ) (cs : List ℕ) → length (startsFrom c cs) ≡ length cs
 unfolding startsFrom
 each-start c [] = refl
 each-start c (n ∷ ns) = omega (arith, each-start n ns)
+
+pub length-starts : (cs : List ℕ) → length (segments cs) ≡ 2 * length (starts cs)
+unfolding segments starts
+length-starts [] = refl
+length-starts (c ∷ cs) = omega (arith, length-from c cs, each-start c cs)
 
 few-starts : (cs : List ℕ) → length (starts cs) ≤ length cs - 1
 unfolding starts
@@ -160,7 +160,8 @@ unfolding cutsCounted accepted isParsed
 many (parsed ts) e = record { good = refl; size = cc }
 many (refused a b) e = let z : _≡_ {A = ℕ} 0 1 = cc in absurd (omega arith)
 
-is-written : (n k : ℕ) (x : Parsed) (out : List ℕ) → isParsed x ≡ true → k ≡ length (starts (cutsOf (accepted x))) → out ≡ padded n (segments (cutsOf (accepted x))) → Writes (Count k) n out x
+is-written : (n k : ℕ) (x : Parsed) (out : List ℕ) → isParsed x ≡ true → k ≡ length (starts (cutsOf (accepted x))) →
+    out ≡ padded n (segments (cutsOf (accepted x))) → Writes (Count k) n out x
 unfolding isParsed accepted counted segmentsIn
 is-written n k (parsed ts) out h s o = record { says = ap (λ (k : ℕ). ok (k ∷ [])) s; leaves = o }
 is-written n k (refused a b) out h s o = let z : _≡_ {A = ℕ} 0 1 = cc in absurd (omega arith)
@@ -201,8 +202,10 @@ module _ (w old : List ℕ) {d : List ℕ} (z : d ≡ zeros (length old)) where
       pub seg-found : {k : ℕ} {out : List ℕ} → Put (segments (take m cs)) 0 d k out → Writes (Count (k / 2)) (length old) out (parseFor (length old) w)
       seg-found {k} {out} p =
           let all : segments (take m cs) ≡ segments (cutsOf (accepted (parse w))) = ap segments first in
-          let half : k / 2 ≡ length (starts (cutsOf (accepted (parse w)))) = omega (arith, p .next, ap length all, length-starts (cutsOf (accepted (parse w)))) in
-          let fits : length (segments (take m cs)) ≤ length old = omega (arith, ap length all, length-starts (cutsOf (accepted (parse w))), few-segments w, size) in
+          let half : k / 2 ≡ length (starts (cutsOf (accepted (parse w)))) =
+          omega (arith, p .next, ap length all, length-starts (cutsOf (accepted (parse w)))) in
+          let fits : length (segments (take m cs)) ≤ length old =
+          omega (arith, ap length all, length-starts (cutsOf (accepted (parse w))), few-segments w, size) in
           rw for-room
           (is-written (length old) (k / 2) (parse w) out (found .good) half
           (p .is ∙ ap (lay 0 (segments (take m cs))) z ∙ lay-zeros (length old) (segments (take m cs)) fits ∙ ap (padded (length old)) all))

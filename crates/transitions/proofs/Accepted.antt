@@ -13,7 +13,7 @@ use Rattle.transitions.specs.Transition.{Transition, inOrder}
 use Rattle.transitions.specs.Intervals.{Span, intervals, ends, endsAll}
 use Rattle.transitions.specs.Bytes.{sizeAt, shapeOf, transOf}
 use Rattle.transitions.specs.Read.{good, bad, bodyAt, recordAt, Parsed, parsed, refused, more, parseFrom, parse, isParsed, accepted}
-use Rattle.transitions.specs.Walk.{transAt, nextAt, transFrom, Sound}
+use Rattle.transitions.specs.Walk.{transAt, nextAt, transFrom, Fit}
 use Rattle.transitions.proofs.Order.{le-cases, both}
 use Rattle.transitions.proofs.Records.{parse-bad, parse-over, parse-full, parse-on}
 
@@ -30,11 +30,13 @@ record Wrong (w : List ℕ) (at : ℕ) : Type 0 where
   is : recordAt w at ≡ bad number
 
 module _ (w : List ℕ) (at size : ℕ) where
-  body-right : (t : Transition) → transOf w (getD w at 0) size (at + 3) ≡ t → shapeOf (getD w at 0) size ≡ true → inOrder t ≡ true → bodyAt w at size ≡ good t (at + 3 + size)
+  body-right : (t : Transition) → transOf w (getD w at 0) size (at + 3) ≡ t → shapeOf (getD w at 0) size ≡ true → inOrder t ≡ true →
+      bodyAt w at size ≡ good t (at + 3 + size)
   unfolding bodyAt
   body-right t e s o = rw (s, e, o)
 
-  body-mixed : (t : Transition) → transOf w (getD w at 0) size (at + 3) ≡ t → shapeOf (getD w at 0) size ≡ true → inOrder t ≡ false → bodyAt w at size ≡ bad ORDER
+  body-mixed : (t : Transition) → transOf w (getD w at 0) size (at + 3) ≡ t → shapeOf (getD w at 0) size ≡ true → inOrder t ≡ false →
+      bodyAt w at size ≡ bad ORDER
   unfolding bodyAt
   body-mixed t e s o = rw (s, e, o)
 
@@ -135,17 +137,17 @@ AllInOrder (t ∷ ts) = (inOrder t ≡ true) × AllInOrder ts
 
 pub record Listed (w : List ℕ) (at : ℕ) (ts : List Transition) : Type 0 where
   pub is : ts ≡ transFrom w (length ts) at
-  pub sound : Sound w (length ts) at
+  pub fit : Fit w (length ts) at
   pub order : AllInOrder ts
 
 listed-end : (w : List ℕ) (at : ℕ) → Listed w at []
-unfolding transFrom Sound
-listed-end w at = record { is = refl; sound = tt; order = tt }
+unfolding transFrom Fit
+listed-end w at = record { is = refl; fit = tt; order = tt }
 
 listed-turn : (w : List ℕ) (at : ℕ) (ts : List Transition) → Fine w at → Listed w (nextAt w at) ts → Listed w at (transAt w at ∷ ts)
-unfolding transFrom Sound
+unfolding transFrom Fit
 listed-turn w at ts f l =
-    record { is = ap (λ (l : List Transition). transAt w at ∷ l) (l .is); sound = (f .there, f .shape, l .sound); order = (f .order, l .order) }
+    record { is = ap (λ (l : List Transition). transAt w at ∷ l) (l .is); fit = (f .there, f .shape, f .order, l .fit); order = (f .order, l .order) }
 
 pub listed-from : (w : List ℕ) (left at used : ℕ) → isParsed (parseFrom w left at used) ≡ true → Listed w at (accepted (parseFrom w left at used))
 listed-from w =
@@ -166,7 +168,8 @@ unfolding ends
 length-ends [] = refl
 length-ends (s ∷ ss) = omega (arith, length-ends ss)
 
-most-from : (w : List ℕ) (left at used : ℕ) → isParsed (parseFrom w left at used) ≡ true → used ≤ 1024 → 2 * used + length (endsAll (accepted (parseFrom w left at used))) ≤ 2048
+most-from : (w : List ℕ) (left at used : ℕ) → isParsed (parseFrom w left at used) ≡ true → used ≤ 1024 →
+    2 * used + length (endsAll (accepted (parseFrom w left at used))) ≤ 2048
 unfolding endsAll
 most-from w =
     walk (λ left at used. used ≤ 1024 → 2 * used + length (endsAll (accepted (parseFrom w left at used))) ≤ 2048) w

@@ -7,7 +7,8 @@ use mathlib.Core.List.{List, [], _∷_}
 use native.Mathlib.Omega.{arith}
 use lib.Dec.{leb, ltb, eqb, leb·suc-suc}
 use borrow.Author.Tests.{lt-ltb, le-ltb, le-leb, lt-leb, eq-eqb, ne-eqb}
-use Rattle.transitions.specs.Transition.{Pair, Transition, atom, range, set, notSet, wildcard, origin, points, beyond, pairHas, anyHas, holds, holdAt, orderly, inOrder}
+use Rattle.transitions.specs.Transition.{Pair, Transition, atom, range, set, notSet, wildcard, origin, points, beyond}
+use Rattle.transitions.specs.Transition.{pairHas, anyHas, holds, holdAt, orderly, inOrder}
 use Rattle.transitions.specs.Intervals.{Span, inSpan, within, clip, clipped, clips, gaps, intervals, allIntervals, bitsAt, Spans, Lists}
 use Rattle.transitions.proofs.Order.{le-cases, leb-same}
 use Rattle.transitions.proofs.Accepted.{AllInOrder}
@@ -48,11 +49,11 @@ within-clips (a ∷ more) p h =
 
 -- In order, as facts of the numbers
 
-abbrev Ordered : ℕ → List Pair → Type 0
+abbrev pub Ordered : ℕ → List Pair → Type 0
 Ordered f [] = Unit {0}
 Ordered f (a ∷ more) = (f ≤ a .low) × (a .low ≤ a .high) × Ordered (suc (a .high)) more
 
-ordered : (f : ℕ) (more : List Pair) → orderly f more ≡ true → Ordered f more
+pub ordered : (f : ℕ) (more : List Pair) → orderly f more ≡ true → Ordered f more
 unfolding orderly
 ordered f [] e = tt
 ordered f (a ∷ more) e =

@@ -4,4 +4,3 @@ pub mod Tags
 pub mod Records
 pub mod Accepted
 pub mod Holds
-pub mod Complements

@@ -95,11 +95,13 @@ module _ (w : List ℕ) where
 
   -- The loops that count
 
-  pub clips-turn : (left here found : ℕ) {low high r all : ℕ} → 0 < left → low ≡ numberAt w here → high ≡ numberAt w (here + 4) → r ≡ length (clip low (high + 1) []) →
+  pub clips-turn : (left here found : ℕ) {low high r all : ℕ} → 0 < left → low ≡ numberAt w here → high ≡ numberAt w (here + 4) →
+      r ≡ length (clip low (high + 1) []) →
       found + length (clips (pairsAt w left here)) ≡ all → found + r + length (clips (pairsAt w (left - 1) (here + 8))) ≡ all
   unfolding clips
   clips-turn left here found {low} {high} {r} n a b e i =
-      let one : length (clips (pairsAt w left here)) ≡ length (clip (numberAt w here) (suc (numberAt w (here + 4))) []) + length (clips (pairsAt w (left - 1) (here + 8)))
+      let one : length (clips (pairsAt w left here))
+      ≡ length (clip (numberAt w here) (suc (numberAt w (here + 4))) []) + length (clips (pairsAt w (left - 1) (here + 8)))
       = rw (pairs-turn left here n) (length-clip _ _ _) in
       let r′ : r ≡ length (clip (numberAt w here) (suc (numberAt w (here + 4))) []) = e ∙ (rw (add-one, a, b)) in
       omega arith
@@ -108,8 +110,9 @@ module _ (w : List ℕ) where
   unfolding clips
   clips-done left here found n i = let j = rw (pairs-done left here n) at i in omega arith
 
-  pub gaps-turn : (left here next found : ℕ) {low high r after all : ℕ} → 0 < left → low ≡ numberAt w here → high ≡ numberAt w (here + 4) → r ≡ length (clip next low []) →
-      after ≡ max next (suc high) → found + length (gaps next (pairsAt w left here)) ≡ all → found + r + length (gaps after (pairsAt w (left - 1) (here + 8))) ≡ all
+  pub gaps-turn : (left here next found : ℕ) {low high r after all : ℕ} → 0 < left → low ≡ numberAt w here →
+      high ≡ numberAt w (here + 4) → r ≡ length (clip next low []) → after ≡ max next (suc high) → found + length (gaps next (pairsAt w left here)) ≡ all →
+      found + r + length (gaps after (pairsAt w (left - 1) (here + 8))) ≡ all
   unfolding gaps
   gaps-turn left here next found {low} {high} {r} n a b e g i =
       let one : length (gaps next (pairsAt w left here))
@@ -118,9 +121,11 @@ module _ (w : List ℕ) where
       let r′ : r ≡ length (clip next (numberAt w here) []) = e ∙ (rw a) in
       rw (g, b) (omega arith)
 
-  pub gaps-done : (left here next found : ℕ) {r all : ℕ} → left ≤ 0 → r ≡ length (clip next beyond []) → found + length (gaps next (pairsAt w left here)) ≡ all → found + r ≡ all
+  pub gaps-done : (left here next found : ℕ) {r all : ℕ} → left ≤ 0 → r ≡ length (clip next beyond []) →
+      found + length (gaps next (pairsAt w left here)) ≡ all → found + r ≡ all
   unfolding gaps
-  gaps-done left here next found {r} n e i = let one : length (gaps next (pairsAt w left here)) ≡ length (clip next beyond []) = rw (pairs-done left here n) in omega arith
+  gaps-done left here next found {r} n e i =
+      let one : length (gaps next (pairsAt w left here)) ≡ length (clip next beyond []) = rw (pairs-done left here n) in omega arith
 
 pub ruleset order = (needs, order-low, order-high, order-turn, order-done)
 

@@ -31,7 +31,8 @@ module _ (w : List ℕ) (at size : ℕ) {s : Bool} (e : s ≡ shapeOf (getD w at
     unfolding bodyAt stepOf
     body-order h = rw (← e, g, ← f, h)
 
-    pub body-good : {n : ℕ} → o ≡ true → n ≡ length (intervals (transOf w (getD w at 0) size (at + 3))) → Good (at + 3 + size) n ≡ stepOf (bodyAt w at size)
+    pub body-good : {n : ℕ} → o ≡ true → n ≡ length (intervals (transOf w (getD w at 0) size (at + 3))) →
+        Good (at + 3 + size) n ≡ stepOf (bodyAt w at size)
     unfolding bodyAt stepOf
     body-good h k = rw (← e, g, ← f, h, k)
 
@@ -75,7 +76,8 @@ module _ (w : List ℕ) (at used : ℕ) (l : at < length w) where
   parse-bad zero n e = rw (lt-ltb _ _ l, e)
   parse-bad (suc left) n e = rw (lt-ltb _ _ l, e)
 
-  pub parse-over : (left : ℕ) (t : Transition) (next : ℕ) → recordAt w at ≡ good t next → 1024 < used + length (intervals t) → parseFrom w left at used ≡ refused LIMIT at
+  pub parse-over : (left : ℕ) (t : Transition) (next : ℕ) → recordAt w at ≡ good t next → 1024 < used + length (intervals t) →
+      parseFrom w left at used ≡ refused LIMIT at
   unfolding parseFrom onward
   parse-over zero t next e h = rw (lt-ltb _ _ l, e, lt-leb (used + length (intervals t)) 1024 h)
   parse-over (suc left) t next e h = rw (lt-ltb _ _ l, e, lt-leb (used + length (intervals t)) 1024 h)
@@ -150,7 +152,8 @@ module _ (w : List ℕ) (left at used : ℕ) {got : Step} {all : Said} (l : at <
     unfolding countedFrom
     rec-over r s u h = s ∙ rw (parse-over w at used l left (here .t) next (here .is) (omega (arith, here .size))) at i
 
-    pub rec-turn : (left ≡ 0 → ⊥) → left ≤ 256 → used ≤ 1024 → k ≤ 1024 - used → countedFrom (256 - (left - 1)) (used + k) (parseFrom w (left - 1) next (used + k)) ≡ all
+    pub rec-turn : (left ≡ 0 → ⊥) → left ≤ 256 → used ≤ 1024 → k ≤ 1024 - used →
+        countedFrom (256 - (left - 1)) (used + k) (parseFrom w (left - 1) next (used + k)) ≡ all
     rec-turn z m u h =
         let one : left ≡ suc (left - 1) = omega arith in
         let up : suc (256 - left) ≡ 256 - (left - 1) = omega arith in
@@ -158,7 +161,8 @@ module _ (w : List ℕ) (left at used : ℕ) {got : Step} {all : Said} (l : at <
         = ap (λ (n : ℕ). parseFrom w n at used) one ∙ parse-on w at used l (left - 1) (here .t) next (here .is) (omega (arith, here .size)) in
         rw (← up, here .size) (sym (counted-more (256 - left) used (here .t) _) ∙ ap (countedFrom (256 - left) used) (sym on) ∙ i)
 
-pub rec-done : (w : List ℕ) (left at used : ℕ) {all : Said} → length w ≤ at → countedFrom (256 - left) used (parseFrom w left at used) ≡ all → said (Read (256 - left) used) ≡ all
+pub rec-done : (w : List ℕ) (left at used : ℕ) {all : Said} → length w ≤ at →
+    countedFrom (256 - left) used (parseFrom w left at used) ≡ all → said (Read (256 - left) used) ≡ all
 unfolding parseFrom countedFrom total
 rec-done w left at used {all} l i = ap₂ {C = Said} (λ m k. ok (m ∷ k ∷ [])) (sym (add-zero (256 - left))) (sym (add-zero used)) ∙ ends left i
   where

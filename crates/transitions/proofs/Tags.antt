@@ -83,7 +83,8 @@ module _ (w : List ℕ) (tag size p : ℕ) where
   unfolding intervals
   intervals-1 h a = rw (trans-1 h, ← a, add-one)
 
-  pub intervals-2 : {low high : ℕ} → tag ≡ 2 → low ≡ numberAt w p → high ≡ numberAt w (p + 4) → intervals (transOf w tag size p) ≡ clip low (high + 1) []
+  pub intervals-2 : {low high : ℕ} → tag ≡ 2 → low ≡ numberAt w p → high ≡ numberAt w (p + 4) →
+      intervals (transOf w tag size p) ≡ clip low (high + 1) []
   unfolding intervals
   intervals-2 h a b = rw (trans-2 h, ← a, ← b, add-one)
 
@@ -95,7 +96,8 @@ module _ (w : List ℕ) (tag size p : ℕ) where
   unfolding intervals
   intervals-4 h = rw (trans-4 h)
 
-  pub intervals-5 : (tag ≡ 1 → ⊥) → (tag ≡ 2 → ⊥) → (tag ≡ 3 → ⊥) → (tag ≡ 4 → ⊥) → intervals (transOf w tag size p) ≡ clip origin beyond []
+  pub intervals-5 : (tag ≡ 1 → ⊥) → (tag ≡ 2 → ⊥) → (tag ≡ 3 → ⊥) → (tag ≡ 4 → ⊥) →
+      intervals (transOf w tag size p) ≡ clip origin beyond []
   unfolding intervals
   intervals-5 a b c d = rw (trans-5 a b c d)
 
@@ -104,7 +106,8 @@ module _ (w : List ℕ) (tag size p : ℕ) where
   pub count-1 : {k r : ℕ} → tag ≡ 1 → k ≡ numberAt w p → r ≡ length (clip k (k + 1) []) → r ≡ length (intervals (transOf w tag size p))
   count-1 h a e = e ∙ sym (ap length (intervals-1 h a))
 
-  pub count-2 : {low high r : ℕ} → tag ≡ 2 → low ≡ numberAt w p → high ≡ numberAt w (p + 4) → r ≡ length (clip low (high + 1) []) → r ≡ length (intervals (transOf w tag size p))
+  pub count-2 : {low high r : ℕ} → tag ≡ 2 → low ≡ numberAt w p → high ≡ numberAt w (p + 4) → r ≡ length (clip low (high + 1) []) →
+      r ≡ length (intervals (transOf w tag size p))
   count-2 h a b e = e ∙ sym (ap length (intervals-2 h a b))
 
   pub count-3 : {r : ℕ} → tag ≡ 3 → r ≡ length (clips (pairsAt w (size / 8) p)) → r ≡ length (intervals (transOf w tag size p))

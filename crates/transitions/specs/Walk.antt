@@ -4,7 +4,7 @@ use mathlib.Core.Path.{_≡_}
 use mathlib.Core.Bool.{true}
 use mathlib.Core.List.{List, [], _∷_}
 use lib.ListN.{length, getD}
-use Rattle.transitions.specs.Transition.{Transition}
+use Rattle.transitions.specs.Transition.{Transition, inOrder}
 use Rattle.transitions.specs.Bytes.{sizeAt, shapeOf, transOf}
 
 -- the transition of the record at `at`, and where the next record starts
@@ -19,7 +19,8 @@ unfoldable pub transFrom : List ℕ → ℕ → ℕ → List Transition
 transFrom w zero at = []
 transFrom w (suc n) at = transAt w at ∷ transFrom w n (nextAt w at)
 
--- n records stand from `at` on, whole and each of its tag's length
-unfoldable pub Sound : List ℕ → ℕ → ℕ → Type 0
-Sound w zero at = Unit {0}
-Sound w (suc n) at = (nextAt w at ≤ length w) × (shapeOf (getD w at 0) (sizeAt w (at + 1)) ≡ true) × Sound w n (nextAt w at)
+-- n records stand from `at` on, whole, each of its tag's length and in order
+unfoldable pub Fit : List ℕ → ℕ → ℕ → Type 0
+Fit w zero at = Unit {0}
+Fit w (suc n) at =
+    (nextAt w at ≤ length w) × (shapeOf (getD w at 0) (sizeAt w (at + 1)) ≡ true) × (inOrder (transAt w at) ≡ true) × Fit w n (nextAt w at)

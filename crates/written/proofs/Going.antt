@@ -48,17 +48,25 @@ module _ (xs : List ℕ) (n : ℕ) (old rest : List ℕ) (m : ℕ) (out : List �
         room = g .room;
       }
 
--- Numbers that are stored in front of what a call writes
+-- Nothing, and numbers that are stored in front of what a call writes
 
-pub put-one : (x : ℕ) (rest : List ℕ) (n : ℕ) (d : List ℕ) {r : ℕ} {new : List ℕ} → Put rest (n + 1) (set d n x) r new → n + 1 + length rest ≤ length d → Put (x ∷ rest) n d r new
+pub put-none : (n : ℕ) (d : List ℕ) → Put [] n d n d
+put-none n d = record { next = omega arith; is = sym (lay-none n d) }
+
+pub put-one : (x : ℕ) (rest : List ℕ) (n : ℕ) (d : List ℕ) {r : ℕ} {new : List ℕ} → Put rest (n + 1) (set d n x) r new →
+    n + 1 + length rest ≤ length d → Put (x ∷ rest) n d r new
 put-one x rest n d p h = record { next = omega (arith, p .next); is = p .is ∙ lay-put n x rest d (omega arith) }
 
-pub put-two : (x y : ℕ) (rest : List ℕ) (n : ℕ) (d : List ℕ) {r : ℕ} {new : List ℕ} → Put rest (n + 2) (set (set d n x) (n + 1) y) r new → n + 2 + length rest ≤ length d → Put (x ∷ y ∷ rest) n d r new
+pub put-two : (x y : ℕ) (rest : List ℕ) (n : ℕ) (d : List ℕ) {r : ℕ} {new : List ℕ} → Put rest (n + 2) (set (set d n x) (n + 1) y) r new →
+    n + 2 + length rest ≤ length d → Put (x ∷ y ∷ rest) n d r new
 put-two x y rest n d {r} {new} p h =
     let e : n + 2 ≡ n + 1 + 1 = omega arith in
     let q : Put rest (n + 1 + 1) (set (set d n x) (n + 1) y) r new = subst (λ k. Put rest k (set (set d n x) (n + 1) y) r new) e p in
     let l : length (set d n x) ≡ length d = length-set d n x in
     put-one x (y ∷ rest) n d (put-one y rest (n + 1) (set d n x) q (omega arith)) (omega arith)
+
+pub put-pair : (x y n : ℕ) (d : List ℕ) → n + 2 ≤ length d → Put (x ∷ y ∷ []) n d (n + 2) (set (set d n x) (n + 1) y)
+put-pair x y n d h = put-two x y [] n d (put-none (n + 2) (set (set d n x) (n + 1) y)) (omega arith)
 
 -- What is written keeps the length
 

@@ -23,6 +23,13 @@ pub lay-length : (n : ℕ) (xs d : List ℕ) → length (lay n xs d) ≡ length 
 unfolding lay
 lay-length n xs d = omega (arith, length-append (take n d) (over xs (drop n d)), over-length xs (drop n d), length-take n d, length-drop n d)
 
+-- what was written stands in front
+pub over-front : (xs d : List ℕ) → length xs ≤ length d → over xs d ≡ xs ++ drop (length xs) d
+unfolding over
+over-front [] d h = refl
+over-front (x ∷ xs) [] h = absurd (not-suc-le-zero h)
+over-front (x ∷ xs) (y ∷ d) h = ap (λ (l : List ℕ). x ∷ l) (over-front xs d (le-of-suc-le-suc h))
+
 -- nothing laid changes nothing
 pub lay-none : (n : ℕ) (d : List ℕ) → lay n [] d ≡ d
 unfolding lay over
@@ -70,10 +77,12 @@ lay-zeros n xs h = over-zeros n xs h
 abbrev pub Clearing : List ℕ → ℕ → List ℕ → Type 0
 Clearing d n l = (l ≡ replicate n 0 ++ drop n d) × (length l ≡ length d) × (n ≤ length d)
 
-pub clear-turn : (n : ℕ) (d : List ℕ) {l : List ℕ} → n < length l → length l ≡ length d → l ≡ replicate n 0 ++ drop n d → set l n 0 ≡ replicate (n + 1) 0 ++ drop (n + 1) d
+pub clear-turn : (n : ℕ) (d : List ℕ) {l : List ℕ} → n < length l → length l ≡ length d → l ≡ replicate n 0 ++ drop n d →
+    set l n 0 ≡ replicate (n + 1) 0 ++ drop (n + 1) d
 clear-turn n d h k e = ap (λ (l : List ℕ). set l n 0) e ∙ fill-more n 0 d (omega arith)
 
-pub clear-done : (n : ℕ) (d : List ℕ) {l : List ℕ} → length l ≤ n → length l ≡ length d → n ≤ length d → l ≡ replicate n 0 ++ drop n d → l ≡ zeros (length d)
+pub clear-done : (n : ℕ) (d : List ℕ) {l : List ℕ} → length l ≤ n → length l ≡ length d → n ≤ length d →
+    l ≡ replicate n 0 ++ drop n d → l ≡ zeros (length d)
 clear-done n d h k m e = let i : n ≡ length d = omega arith in e ∙ (rw (i, drop-length, append-nil))
 
 -- A part of k numbers from n on is made 0, the numbers before it are 0
@@ -85,7 +94,8 @@ seams (suc n) ys = (ap (λ (l : List ℕ). 0 ∷ l) (seams n ys .0), seams n ys 
 joined : (n k : ℕ) (ys : List ℕ) → zeros n ++ (zeros k ++ ys) ≡ zeros (n + k) ++ ys
 joined n k ys = sym (append-assoc (zeros n) (zeros k) ys) ∙ ap (λ (l : List ℕ). l ++ ys) (replicate-append-replicate n k 0)
 
-clear-part : (n k : ℕ) (d : List ℕ) {l e : List ℕ} → n + k ≤ length l → l ≡ zeros n ++ drop n d → e ≡ zeros (length (midOf n k l)) → putMid n k l e ≡ zeros (n + k) ++ drop (n + k) d
+clear-part : (n k : ℕ) (d : List ℕ) {l e : List ℕ} → n + k ≤ length l → l ≡ zeros n ++ drop n d → e ≡ zeros (length (midOf n k l)) →
+    putMid n k l e ≡ zeros (n + k) ++ drop (n + k) d
 clear-part n k d {l} {e} h i z =
     let f : take n l ≡ zeros n = ap (take n) i ∙ seams n (drop n d) .0 in
     let g : drop n l ≡ drop n d = ap (drop n) i ∙ seams n (drop n d) .1 in
@@ -93,10 +103,12 @@ clear-part n k d {l} {e} h i z =
     let p : postOf n k l ≡ drop (n + k) d = ap (drop k) g ∙ drop-drop k n d in
     (rw (f, z, m, p)) ∙ joined n k (drop (n + k) d)
 
-pub clear-block : (n k : ℕ) (d : List ℕ) {l e : List ℕ} → k ≤ length l - n → n ≤ length d → length l ≡ length d → l ≡ replicate n 0 ++ drop n d → e ≡ zeros (length (midOf n (n + k - n) l)) → putMid n (n + k - n) l e ≡ replicate (n + k) 0 ++ drop (n + k) d
+pub clear-block : (n k : ℕ) (d : List ℕ) {l e : List ℕ} → k ≤ length l - n → n ≤ length d → length l ≡ length d →
+    l ≡ replicate n 0 ++ drop n d → e ≡ zeros (length (midOf n (n + k - n) l)) → putMid n (n + k - n) l e ≡ replicate (n + k) 0 ++ drop (n + k) d
 clear-block n k d h m j i z = let s : n + (n + k - n) ≡ n + k = omega arith in clear-part n (n + k - n) d (omega arith) i z ∙ (rw s)
 
-pub clear-rest : (n : ℕ) (d : List ℕ) {l e : List ℕ} → n ≤ length d → length l ≡ length d → l ≡ replicate n 0 ++ drop n d → e ≡ zeros (length (midOf n (length l - n) l)) → putMid n (length l - n) l e ≡ zeros (length d)
+pub clear-rest : (n : ℕ) (d : List ℕ) {l e : List ℕ} → n ≤ length d → length l ≡ length d → l ≡ replicate n 0 ++ drop n d →
+    e ≡ zeros (length (midOf n (length l - n) l)) → putMid n (length l - n) l e ≡ zeros (length d)
 clear-rest n d {l} h k i z =
     let s : n + (length l - n) ≡ length d = omega arith in
     clear-part n (length l - n) d (omega arith) i z ∙ (rw (s, drop-length, append-nil))
@@ -112,12 +124,14 @@ Reading d all n = (all ≡ 0 → d ≡ replicate n 0 ++ drop n d) × (n ≤ leng
 or-zero : (a b : ℕ) → bitOr a b ≡ 0 → (a ≡ 0) × (b ≡ 0)
 or-zero a b h = (omega (arith, or-add-and a b, and-le-r a b, h), omega (arith, or-add-and a b, and-le-l a b, h))
 
-pub bits-turn : (n : ℕ) (d : List ℕ) {all : ℕ} → n < length d → (all ≡ 0 → d ≡ replicate n 0 ++ drop n d) → bitOr all (getD d n 0) ≡ 0 → d ≡ replicate (n + 1) 0 ++ drop (n + 1) d
+pub bits-turn : (n : ℕ) (d : List ℕ) {all : ℕ} → n < length d → (all ≡ 0 → d ≡ replicate n 0 ++ drop n d) →
+    bitOr all (getD d n 0) ≡ 0 → d ≡ replicate (n + 1) 0 ++ drop (n + 1) d
 bits-turn n d {all} h f e =
     let o : (all ≡ 0) × (getD d n 0 ≡ 0) = or-zero all (getD d n 0) e in
     sym (set-getD d n 0) ∙ ap (set d n) (o .1) ∙ clear-turn n d h refl (f (o .0))
 
-pub bits-done : (n : ℕ) (d : List ℕ) {all : ℕ} → length d ≤ n → n ≤ length d → (all ≡ 0 → d ≡ replicate n 0 ++ drop n d) → all ≡ 0 → d ≡ zeros (length d)
+pub bits-done : (n : ℕ) (d : List ℕ) {all : ℕ} → length d ≤ n → n ≤ length d → (all ≡ 0 → d ≡ replicate n 0 ++ drop n d) →
+    all ≡ 0 → d ≡ zeros (length d)
 bits-done n d h m f e = clear-done n d h refl m (f e)
 
 pub ruleset clearing = (needs, clear-turn, clear-done, clear-block, clear-rest, part-length, bits-turn, bits-done)

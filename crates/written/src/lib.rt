@@ -8,7 +8,7 @@ ghost use Rattle.written.specs.Over.{zeros};
 pub const BLOCK: usize = 256;
 
 // Up to so many numbers stay in the nearest cache, where to write costs less than to read.
-const SHORT: usize = 4096;
+const CACHED: usize = 4096;
 
 // The bits of all numbers together, so 0 only where every number is 0. The loop has no other way out: it reads several at once.
 fn bits(block: &[u32]) -> u32
@@ -56,7 +56,7 @@ fn clear_blocks(numbers: &mut [u32])
 pub fn clear(numbers: &mut [u32])
     ensures { λ _. ⌜ now (numbers .exit) ≡ zeros (length (now (numbers .entry))) ⌝ }
 {
-    if numbers.len() > SHORT {
+    if numbers.len() > CACHED {
         clear_blocks(numbers);
     } else {
         write_zeros(numbers);

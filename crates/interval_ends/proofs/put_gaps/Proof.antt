@@ -12,7 +12,9 @@ use Rattle.interval_ends.proofs.put_gaps.Tie as tie
 
 abbrev Inv-loop : tie.InvT-loop
 Inv-loop list p count out₀ n next₀ here₀ left₀ m₀ out next here left m =
-    (here + 8 * left ≤ length list) × (next ≤ 4294967296) × Going (ends (gaps origin (pairsAt list count p))) n out₀ (ends (gaps next (pairsAt list left here))) m out
+    (here + 8 * left ≤ length list)
+    × (next ≤ 4294967296)
+    × Going (ends (gaps origin (pairsAt list count p))) n out₀ (ends (gaps next (pairsAt list left here))) m out
 
 abbrev μ-loop : tie.MeasureT-loop
 μ-loop list p count out₀ n next₀ here₀ left₀ m₀ out next here left m = left

@@ -8,7 +8,8 @@ use Rattle.mask_places.proofs.is_zero.Statement.{statement}
 use Rattle.mask_places.proofs.is_zero.Tie as tie
 
 abbrev Inv-loop : tie.InvT-loop
-Inv-loop masks at words here₀ left₀ here left = (here + left ≤ length masks) × (isZero (take left (drop here masks)) ≡ isZero (take words (drop at masks)))
+Inv-loop masks at words here₀ left₀ here left =
+    (here + left ≤ length masks) × (isZero (take left (drop here masks)) ≡ isZero (take words (drop at masks)))
 
 abbrev μ-loop : tie.MeasureT-loop
 μ-loop masks at words here₀ left₀ here left = left

@@ -7,7 +7,8 @@ use Rattle.mask_places.proofs.put_words.Statement.{statement}
 use Rattle.mask_places.proofs.put_words.Tie as tie
 
 abbrev Inv-loop : tie.InvT-loop
-Inv-loop masks at words out₀ k here₀ left₀ m₀ out here left m = (here + left ≤ length masks) × Going (take words (drop at masks)) k out₀ (take left (drop here masks)) m out
+Inv-loop masks at words out₀ k here₀ left₀ m₀ out here left m =
+    (here + left ≤ length masks) × Going (take words (drop at masks)) k out₀ (take left (drop here masks)) m out
 
 abbrev μ-loop : tie.MeasureT-loop
 μ-loop masks at words out₀ k here₀ left₀ m₀ out here left m = left

@@ -9,7 +9,11 @@ use Rattle.masks.proofs.add_column.Statement.{statement}
 use Rattle.masks.proofs.add_column.Tie as tie
 
 abbrev Inv-loop : tie.InvT-loop
-Inv-loop list tag size p segments count out₀ left₀ at₀ k₀ span₀ out left at k span = (at + 2 * left ≤ length segments) × (k + left ≡ count) × Filling (transOf list tag size p) segments count out₀ left at k out × Tells (transOf list tag size p) tag (span .floor) (span .low) (span .high)
+Inv-loop list tag size p segments count out₀ left₀ at₀ k₀ span₀ out left at k span =
+    (at + 2 * left ≤ length segments)
+    × (k + left ≡ count)
+    × Filling (transOf list tag size p) segments count out₀ left at k out
+    × Tells (transOf list tag size p) tag (span .floor) (span .low) (span .high)
 
 abbrev μ-loop : tie.MeasureT-loop
 μ-loop list tag size p segments count out₀ left₀ at₀ k₀ span₀ out left at k span = left

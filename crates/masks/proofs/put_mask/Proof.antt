@@ -1,15 +1,15 @@
 -- By the law of every loop that writes: the words that are left, written from here, give what all of them give.
 use Prim.Native.Nat.{_<_}
 use Rattle.written.proofs.Going.{Going}
-use Rattle.transitions.specs.Walk.{transFrom}
+use Rattle.transitions.specs.Walk.{transFrom, Fit}
 use Rattle.masks.specs.Masks.{maskOf}
-use Rattle.masks.specs.Walk.{Fit}
 use Rattle.masks.proofs.Puts.{masking, mask-rest, mask-turn}
 use Rattle.masks.proofs.put_mask.Statement.{statement}
 use Rattle.masks.proofs.put_mask.Tie as tie
 
 abbrev Inv-loop : tie.InvT-loop
-Inv-loop list n point out₀ k left₀ at₀ m₀ out left at m = Fit list left at × Going (maskOf (transFrom list n 0) point) k out₀ (maskOf (transFrom list left at) point) m out
+Inv-loop list n point out₀ k left₀ at₀ m₀ out left at m =
+    Fit list left at × Going (maskOf (transFrom list n 0) point) k out₀ (maskOf (transFrom list left at) point) m out
 
 abbrev μ-loop : tie.MeasureT-loop
 μ-loop list n point out₀ k left₀ at₀ m₀ out left at m = left

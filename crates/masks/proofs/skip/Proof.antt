@@ -1,7 +1,8 @@
 -- The records that are left end where all do. The measure is how many are left.
 use mathlib.Core.Path.{_≡_}
 use native.Mathlib.Omega.{arith}
-use Rattle.masks.specs.Walk.{Fit, nextOf}
+use Rattle.transitions.specs.Walk.{Fit}
+use Rattle.masks.specs.Walk.{nextOf}
 use Rattle.masks.proofs.Words.{skips, skip-size, skip-value}
 use Rattle.masks.proofs.skip.Statement.{statement}
 use Rattle.masks.proofs.skip.Tie as tie

@@ -11,7 +11,10 @@ use Rattle.transitions.proofs.count_gaps.Tie as tie
 
 abbrev Inv-loop : tie.InvT-loop
 Inv-loop list p n found₀ next₀ here₀ left₀ found next here left =
-    (here + 8 * left ≤ length list) × (found + left ≤ n) × (next ≤ 4294967296) × (found + length (gaps next (pairsAt list left here)) ≡ length (gaps origin (pairsAt list n p)))
+    (here + 8 * left ≤ length list)
+    × (found + left ≤ n)
+    × (next ≤ 4294967296)
+    × (found + length (gaps next (pairsAt list left here)) ≡ length (gaps origin (pairsAt list n p)))
 
 abbrev μ-loop : tie.MeasureT-loop
 μ-loop list p n found₀ next₀ here₀ left₀ found next here left = left

@@ -9,7 +9,8 @@ use Rattle.transitions.proofs.ordered.Statement.{statement}
 use Rattle.transitions.proofs.ordered.Tie as tie
 
 abbrev Inv-loop : tie.InvT-loop
-Inv-loop list p n from₀ here₀ left₀ from here left = (here + 8 * left ≤ length list) × (orderly from (pairsAt list left here) ≡ orderly 0 (pairsAt list n p))
+Inv-loop list p n from₀ here₀ left₀ from here left =
+    (here + 8 * left ≤ length list) × (orderly from (pairsAt list left here) ≡ orderly 0 (pairsAt list n p))
 
 abbrev μ-loop : tie.MeasureT-loop
 μ-loop list p n from₀ here₀ left₀ from here left = left

@@ -7,7 +7,8 @@ use Rattle.transitions.proofs.read_transitions.Statement.{statement}
 use Rattle.transitions.proofs.read_transitions.Tie as tie
 
 abbrev Inv-loop : tie.InvT-loop
-Inv-loop list left₀ at₀ used₀ left at used = (used ≤ 1024) × (left ≤ 256) × (countedFrom (256 - left) used (parseFrom list left at used) ≡ counted (parse list))
+Inv-loop list left₀ at₀ used₀ left at used =
+    (used ≤ 1024) × (left ≤ 256) × (countedFrom (256 - left) used (parseFrom list left at used) ≡ counted (parse list))
 
 abbrev μ-loop : tie.MeasureT-loop
 μ-loop list left₀ at₀ used₀ left at used = left
