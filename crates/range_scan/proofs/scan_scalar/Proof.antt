@@ -7,9 +7,15 @@ use Rattle.range_scan.proofs.scan_scalar.Tie as tie
 
 returns : tie.Need-returns
 returns c =
-    let u = c .before in
-    let a = u .before .before .before .before .before .before .before .before .before .before .args in
-    scan-used (a .ranges .ranges) (a .ranges .count) (a .input .now) (c .scan-four .ensures) (u .before .before .before .before .before .before .used .ensures) (u .before .before .before .before .used2 .ensures) (u .before .before .used3 .ensures) (u .used4 .ensures) (four-ranges (a .ranges .ranges) 4 (u .before .before .before .before .before .before .before .before .before .before .good .0 .1 .1 .0 .1 .0 .1))
+    let fourth = c .before in
+    let third = fourth .before .before in
+    let second = third .before .before in
+    let first = second .before .before in
+    let entry = first .before .before .before .before in
+    let rs = entry .args .ranges .ranges in
+    scan-used rs (entry .args .ranges .count) (entry .args .input .now) (c .scan-four .ensures)
+    (first .used .ensures) (second .used2 .ensures) (third .used3 .ensures) (fourth .used4 .ensures)
+    (four-ranges rs 4 (entry .good .0 .1 .1 .0 .1 .0 .1))
 
 pub scan-scalar-spec : {M : Type 1} → statement M
 scan-scalar-spec =
