@@ -106,9 +106,9 @@ both-none : (s : Seen) → both s (seenIn []) ≡ s
 unfolding both seenIn some every
 both-none s = simp (or-false, and-true)
 
-pub none-both : (s : Seen) → both (flags false false true true true) s ≡ s
+pub none-both : (s : Seen) {r : Seen} → r ≡ flags false false true true true → both r s ≡ s
 unfolding both
-none-both s = refl
+none-both s e = rw e
 
 -- The bytes of a range, one after the other. What was seen, with what there is from here on, is what there is in all.
 

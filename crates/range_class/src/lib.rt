@@ -2,7 +2,7 @@
 ghost use mathlib.Core.Path.{_≡_};
 ghost use Rattle.ascii_range.specs.Ranges.{listed};
 ghost use Rattle.range_class.specs.Class.{bytesIn, bytesOf, said, classSaid};
-ghost use Rattle.range_class.specs.Seen.{factsOf, both, seenIn, decided};
+ghost use Rattle.range_class.specs.Seen.{flags, factsOf, both, seenIn, decided};
 use ascii_range::AsciiRange;
 use ascii_range::AsciiRanges;
 use ascii_range::PackedRanges;
@@ -34,67 +34,32 @@ struct Seen {
     all_identifier: bool,
 }
 
+// The flags, in the order of the fields.
+fn flags(digit: bool, alpha: bool, whitespace: bool, number: bool, identifier: bool) -> Seen
+    ensures { λ r. ⌜ r ≡ flags digit alpha whitespace number identifier ⌝ }
+{
+    Seen {
+        any_digit: digit,
+        any_alpha: alpha,
+        all_whitespace: whitespace,
+        all_number: number,
+        all_identifier: identifier,
+    }
+}
+
 // What one byte says, by its class.
 fn facts(class: ByteClass) -> Seen
     ensures { λ r. ⌜ r ≡ factsOf class ⌝ }
 {
     match class {
-        ByteClass::Digit => Seen {
-            any_digit: true,
-            any_alpha: false,
-            all_whitespace: false,
-            all_number: true,
-            all_identifier: true,
-        },
-        ByteClass::HexLetter => Seen {
-            any_digit: false,
-            any_alpha: true,
-            all_whitespace: false,
-            all_number: true,
-            all_identifier: true,
-        },
-        ByteClass::Letter => Seen {
-            any_digit: false,
-            any_alpha: true,
-            all_whitespace: false,
-            all_number: false,
-            all_identifier: true,
-        },
-        ByteClass::Whitespace => Seen {
-            any_digit: false,
-            any_alpha: false,
-            all_whitespace: true,
-            all_number: false,
-            all_identifier: false,
-        },
-        ByteClass::Underscore => Seen {
-            any_digit: false,
-            any_alpha: false,
-            all_whitespace: false,
-            all_number: true,
-            all_identifier: true,
-        },
-        ByteClass::Quote => Seen {
-            any_digit: false,
-            any_alpha: false,
-            all_whitespace: false,
-            all_number: true,
-            all_identifier: false,
-        },
-        ByteClass::Dollar => Seen {
-            any_digit: false,
-            any_alpha: false,
-            all_whitespace: false,
-            all_number: false,
-            all_identifier: true,
-        },
-        ByteClass::Other => Seen {
-            any_digit: false,
-            any_alpha: false,
-            all_whitespace: false,
-            all_number: false,
-            all_identifier: false,
-        },
+        ByteClass::Digit => flags(true, false, false, true, true),
+        ByteClass::HexLetter => flags(false, true, false, true, true),
+        ByteClass::Letter => flags(false, true, false, false, true),
+        ByteClass::Whitespace => flags(false, false, true, false, false),
+        ByteClass::Underscore => flags(false, false, false, true, true),
+        ByteClass::Quote => flags(false, false, false, true, false),
+        ByteClass::Dollar => flags(false, false, false, false, true),
+        ByteClass::Other => flags(false, false, false, false, false),
     }
 }
 
@@ -129,13 +94,7 @@ fn see_ranges(ranges: AsciiRanges) -> Seen
 {
     let rs = ranges.ranges;
     let count = ranges.count as usize;
-    let mut seen = Seen {
-        any_digit: false,
-        any_alpha: false,
-        all_whitespace: true,
-        all_number: true,
-        all_identifier: true,
-    };
+    let mut seen = flags(false, false, true, true, true);
     let mut i = 0;
     while i < count {
         if i == MAX_RANGES {

@@ -22,6 +22,7 @@ see-ranges-spec =
     Inv-loop
     μ-loop
     (λ c. search seeing)
+    (λ c κs. search seeing)
     (λ c. search seeing)
     (λ c. search seeing)
     (λ c. search seeing)
