@@ -1,3 +1,4 @@
 pub mod Said
 pub mod Lists
 pub mod Fixed
+pub mod Header

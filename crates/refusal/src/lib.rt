@@ -54,3 +54,25 @@ pub const MAX_INTERVALS: usize = 1024;
 pub const ASCII_SYMBOLS: usize = 128;
 
 pub const MAX_RANGES: usize = 4;
+
+// The numbers of a room's header, by their places in it: how many words there are; where the count of each section stands.
+pub const WORD_COUNT: usize = 0;
+
+pub const MODES_START: usize = 1;
+
+pub const STATES_START: usize = 2;
+
+pub const RUNS_START: usize = 3;
+
+pub const ASCII_START: usize = 4;
+
+pub const WIDE_START: usize = 5;
+
+pub const ACCEPTS_START: usize = 6;
+
+pub const ESCAPES_START: usize = 7;
+
+pub const CONTINUATIONS_START: usize = 8;
+
+// How many numbers the header has: the words stand behind it.
+pub const HEADER_NUMBERS: usize = 9;
