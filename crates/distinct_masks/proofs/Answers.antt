@@ -10,10 +10,11 @@ use Rattle.refusal.specs.Said.{Said, ok}
 use Rattle.transitions.specs.Read.{Parsed, parsed, refused}
 use Rattle.masks.specs.declared.Masks.{Masks}
 use Rattle.masks.specs.declared.Masks.the-variants.{Count, Refused}
-use Rattle.masks.specs.declared.Places.{Places}
-use Rattle.masks.specs.declared.Places.the-variants as place
+use Rattle.mask_places.specs.declared.Places.{Places}
+use Rattle.mask_places.specs.declared.Places.the-variants as place
 use Rattle.masks.specs.Masks.{wordsFor, distinctOf}
-use Rattle.masks.specs.Answer.{said, told, parseDistinct, parsePlaces, counted, foundIn, Distinct, Placed}
+use Rattle.masks.specs.Answer.{said, parseDistinct, counted, Distinct}
+use Rattle.mask_places.specs.Answer.{told, parsePlaces, foundIn, Placed}
 use Rattle.mask_places.proofs.Answers.{roomy-places}
 
 found-said : (x : Parsed) {c m k : ℕ} → told (place.Found c m k) ≡ foundIn x → said (Count m k) ≡ counted distinctOf x

@@ -5,7 +5,7 @@ use mathlib.Core.Path.{_≡_, refl, sym, ap₂, _∙_}
 use mathlib.Core.List.{List, [], _∷_}
 use Rattle.written_words.proofs.clear_words.Reads as clear-words
 use Rattle.mask_places.proofs.place_masks.Reads as place-masks
-use Rattle.masks.proofs.Answers.{told-one}
+use Rattle.mask_places.proofs.Answers.{told-one}
 use Rattle.row_goals.proofs.target_at.Reads as target-at
 use Rattle.row_goals.proofs.goal_of.Reads as goal-of
 use Rattle.row_goals.proofs.refusal_for.Reads as refusal-for

@@ -7,7 +7,7 @@ use native.Mathlib.Omega.{arith}
 use borrow.Author.Needs.{needs}
 use borrow.Author.Tests.{lt-ltb, le-ltb, ltb-false}
 use lib.Dec.{ltb}
-use lib.ListN.{length, length-replicate, length-append}
+use lib.ListN.{length, getD, length-replicate, length-append}
 use Rattle.refusal.specs.declared.Refusal.{Refusal}
 use Rattle.refusal.specs.Said.{Said, ok, no, ROOM}
 use Rattle.refusal.specs.Lists.{pick}
@@ -21,14 +21,15 @@ use Rattle.segments.specs.Answer.{segmentsIn}
 use Rattle.segments.proofs.Answers.{few-segments}
 use Rattle.masks.specs.declared.Masks.{Masks}
 use Rattle.masks.specs.declared.Masks.the-variants.{Count, Refused}
-use Rattle.masks.specs.declared.Places.{Places}
-use Rattle.masks.specs.declared.Places.the-variants as place
 use Rattle.masks.specs.Masks.{wordsFor, masksAt, matrix, flat, distinct, distinctOf, placesIn, placesOf}
-use Rattle.mask_places.specs.Walk.{chunks, Gathered, Spaced, Zeroed, Cleared}
-use Rattle.masks.specs.Answer.{said, told, parseMasks, parseDistinct, parsePlaces, counted, foundIn, masksIn, placedIn, Matrix, Placed}
+use Rattle.masks.specs.Answer.{said, parseMasks, parseDistinct, counted, masksIn, Matrix}
 use Rattle.masks.proofs.Packs.{length-masks, Wide, wide-masks, length-flat, few-wide}
 use Rattle.masks.proofs.Keeps.{wide-distinct}
 use Rattle.masks.proofs.Answers.{few-from, roomy, short}
+use Rattle.mask_places.specs.declared.Places.{Places}
+use Rattle.mask_places.specs.declared.Places.the-variants as place
+use Rattle.mask_places.specs.Walk.{chunks, Gathered, Spaced, Zeroed, Cleared}
+use Rattle.mask_places.specs.Answer.{told, parsePlaces, foundIn, placedIn, Placed}
 use Rattle.mask_places.proofs.Distincts.{chunks-flat, few-distinct, length-places}
 
 -- The call for the distinct ones: what the answer for masks says of the list
@@ -139,7 +140,8 @@ module _ (w a b d q : List ℕ) (z : Cleared d q) {got : Masks} {ns ms : List �
   pub distinct-refused : {r : Refusal} → got ≡ Refused r →
       Placed (place.Refused r) (length a) ns (length b) ms (length d) d (length q) q (parseMasks (length a) (length b) w)
   distinct-refused {r} i =
-      no-masks (length a) (length b) (length d) (length q) (parseMasks (length a) (length b) w) r ns ms d q (ap said (sym i) ∙ g .says) (g .low-high) (g .leaves) (z .once) (z .leaves)
+      no-masks (length a) (length b) (length d) (length q) (parseMasks (length a) (length b) w) r ns ms d q (ap said (sym i) ∙ g .says)
+      (g .low-high) (g .leaves) (z .once) (z .leaves)
 
 pub ruleset filling = (needs, distinct-spaced, distinct-found, distinct-refused)
 
@@ -192,7 +194,8 @@ module _ (e f : List ℕ) {d q : List ℕ} (z : Zeroed e d f q) where
 
     module _ (w a b : List ℕ) where
       pub none-room : {ns ms : List ℕ} → t ≡ true → Zeroed b ms a ns →
-          Placed (place.Refused (record { number = ROOM; place = 0 })) (length a) ns (length b) ms (length e) d (length f) q (parsePlaces (length a) (length b) (length e) (length f) w)
+          Placed (place.Refused (record { number = ROOM; place = 0 })) (length a) ns (length b) ms (length e) d (length f) q
+          (parsePlaces (length a) (length b) (length e) (length f) w)
       unfolding parsePlaces parseDistinct foundIn segmentsIn masksIn placedIn
       none-room h s =
           rw (room-true (ltb (length e) 8192) (ltb (length f) 2048) (parseMasks (length a) (length b) w) (test ∙ h))
@@ -212,3 +215,16 @@ pub ruleset placing = (needs, length-replicate, none-room, all-cleared, placed)
 pub roomy-places : (s n d : ℕ) (w : List ℕ) → parsePlaces s n d 2048 w ≡ parseDistinct s n d w
 unfolding parsePlaces
 roomy-places s n d w = refl
+
+-- `told` takes no two answers to one: what it says gives the answer back
+
+abbrev back : Said → Places
+back (ok l) = place.Found (getD l 0 0) (getD l 1 0) (getD l 2 0)
+back (no n p) = place.Refused (record { number = n; place = p })
+
+back-told : (x : Places) → back (told x) ≡ x
+back-told (place.Found segments masks words) = refl
+back-told (place.Refused r) = refl
+
+pub told-one : (x y : Places) → told x ≡ told y → x ≡ y
+told-one x y e = sym (back-told x) ∙ ap back e ∙ back-told y

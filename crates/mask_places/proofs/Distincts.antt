@@ -47,7 +47,8 @@ unfolding chunks flat
 chunks-flat words [] zs a = refl
 chunks-flat words (d ∷ ds) zs a =
     let e : (d ++ flat ds) ++ zs ≡ d ++ (flat ds ++ zs) = append-assoc d (flat ds) zs in
-    rw (e, take-at d (flat ds ++ zs) words (a .0), drop-at d (flat ds ++ zs) words (a .0)) (ap (λ (l : List (List ℕ)). d ∷ l) (chunks-flat words ds zs (a .1)))
+    rw (e, take-at d (flat ds ++ zs) words (a .0), drop-at d (flat ds ++ zs) words (a .0))
+    (ap (λ (l : List (List ℕ)). d ∷ l) (chunks-flat words ds zs (a .1)))
 
 -- The search for a mask
 
@@ -243,6 +244,10 @@ count-entered ds m d r z h p = go (isZero m) refl
         let at : r ≡ index ds m = p ∙ place-some (addNew ds m) m e ∙ ap (λ (x : List (List ℕ)). index x m) is in
         same is (λ q. omega arith))
 
+-- the places of the masks qs among the distinct ones of the masks all
+abbrev pub placesAmong : List (List ℕ) → List (List ℕ) → List ℕ
+placesAmong all qs = placesIn (distinct [] all) qs
+
 pub record Gathering (ms : List ℕ) (count words : ℕ) (old olds : List ℕ) (left at d i : ℕ) (out places : List ℕ) : Type 0 where
   pub ds : List (List ℕ)
   pub there : at + left * words ≤ length ms
@@ -254,7 +259,8 @@ pub record Gathering (ms : List ℕ) (count words : ℕ) (old olds : List ℕ) (
   pub few : d + left ≤ count
   pub room : count * words ≤ length old
   pub most : count ≤ 2047
-  pub going : Going (placesIn (distinct [] (chunks count words ms)) (chunks count words ms)) 0 olds (placesIn (distinct [] (chunks count words ms)) (chunks left words (drop at ms))) i places
+  pub going : Going (placesAmong (chunks count words ms) (chunks count words ms)) 0 olds
+      (placesAmong (chunks count words ms) (chunks left words (drop at ms))) i places
 
 pub gather-start : (ms : List ℕ) (count words : ℕ) (old olds : List ℕ) → Spaced ms count words old olds →
     Gathering ms count words old olds count 0 0 0 old olds
@@ -271,7 +277,7 @@ gather-start ms count words old olds s =
       few = omega arith;
       room = s .room;
       most = s .few;
-      going = going-start (placesIn (distinct [] (chunks count words ms)) (chunks count words ms)) 0 olds
+      going = going-start (placesAmong (chunks count words ms) (chunks count words ms)) 0 olds
           (omega (arith, length-places (distinct [] (chunks count words ms)) (chunks count words ms), length-chunks count words ms, s .each));
     }
 
@@ -282,6 +288,9 @@ module _ (ms : List ℕ) (count words : ℕ) (old olds : List ℕ) (left at d i 
 
   abbrev m : List ℕ
   m = take words (drop at ms)
+
+  abbrev rest : List (List ℕ)
+  rest = chunks (left - 1) words (drop (at + words) ms)
 
   module _ (n : 0 < left) where
     pub gather-one : at + words ≤ length ms
@@ -295,7 +304,7 @@ module _ (ms : List ℕ) (count words : ℕ) (old olds : List ℕ) (left at d i 
     pub gather-few : d < 2048
     gather-few = omega (arith, g .few, g .most)
 
-    opened : chunks left words (drop at ms) ≡ m ∷ chunks (left - 1) words (drop (at + words) ms)
+    opened : chunks left words (drop at ms) ≡ m ∷ rest
     unfolding chunks
     opened =
         let more : left ≡ suc (left - 1) = omega arith in
@@ -309,27 +318,27 @@ module _ (ms : List ℕ) (count words : ℕ) (old olds : List ℕ) (left at d i 
         let front : out ≡ flat (g .ds) ++ drop (length (flat (g .ds))) old = g .is ∙ over-front (flat (g .ds)) old fits in
         ap₂ (λ (k : ℕ) (l : List ℕ). chunks k words l) (g .size) front ∙ chunks-flat words (g .ds) (drop (length (flat (g .ds))) old) (g .wide)
 
-    next : distinct (g .ds) (chunks left words (drop at ms)) ≡ distinct (addNew (g .ds) m) (chunks (left - 1) words (drop (at + words) ms))
+    next : distinct (g .ds) (chunks left words (drop at ms)) ≡ distinct (addNew (g .ds) m) rest
     unfolding distinct
     next = ap (distinct (g .ds)) opened
 
-    placing : Going (placesIn (distinct [] all) all) 0 olds (placeOf (distinct [] all) m ∷ placesIn (distinct [] all) (chunks (left - 1) words (drop (at + words) ms))) i places
+    placing : Going (placesAmong all all) 0 olds (placeOf (distinct [] all) m ∷ placesAmong all rest) i places
     unfolding placesIn
-    placing = subst (λ (l : List (List ℕ)). Going (placesIn (distinct [] all) all) 0 olds (placesIn (distinct [] all) l) i places) opened (g .going)
+    placing = subst (λ (l : List (List ℕ)). Going (placesAmong all all) 0 olds (placesAmong all l) i places) opened (g .going)
 
     pub gather-place : i < length places
     gather-place =
-        going-place (placesIn (distinct [] all) all) 0 olds (placesIn (distinct [] all) (chunks (left - 1) words (drop (at + words) ms))) i places (placeOf (distinct [] all) m) placing
+        going-place (placesAmong all all) 0 olds (placesAmong all rest) i places (placeOf (distinct [] all) m) placing
 
     pub gather-turn : {r e : ℕ} {new : List ℕ} → Entered (chunks d words out) m out r new → e ≡ pick (eqb r d) (d + 1) d →
         Gathering ms count words old olds (left - 1) (at + words) e (i + 1) new (set places i r)
     gather-turn {r} {e} {new} s c =
         let size : length m ≡ words = length-take-le words (drop at ms) (omega (arith, length-drop at ms, gather-one)) in
         let now : addNew (chunks d words out) m ≡ addNew (g .ds) m = ap (λ (l : List (List ℕ)). addNew l m) stand in
-        let whole : distinct (addNew (g .ds) m) (chunks (left - 1) words (drop (at + words) ms)) ≡ distinct [] all = sym next ∙ g .all in
+        let whole : distinct (addNew (g .ds) m) rest ≡ distinct [] all = sym next ∙ g .all in
         let place : r ≡ placeOf (addNew (g .ds) m) m = s .place ∙ ap (λ (l : List (List ℕ)). placeOf l m) now in
         let last : r ≡ placeOf (distinct [] all) m =
-        place ∙ sym (place-keep (g .ds) (chunks (left - 1) words (drop (at + words) ms)) m) ∙ ap (λ (l : List (List ℕ)). placeOf l m) whole in
+        place ∙ sym (place-keep (g .ds) rest m) ∙ ap (λ (l : List (List ℕ)). placeOf l m) whole in
         let count-is : e ≡ length (addNew (g .ds) m) = c ∙ count-entered (g .ds) m d r (g .size) gather-few place in
         record {
           ds = addNew (g .ds) m;
@@ -343,8 +352,8 @@ module _ (ms : List ℕ) (count words : ℕ) (old olds : List ℕ) (left at d i 
           room = g .room;
           most = g .most;
           going =
-              subst (λ (x : ℕ). Going (placesIn (distinct [] all) all) 0 olds (placesIn (distinct [] all) (chunks (left - 1) words (drop (at + words) ms))) (i + 1) (set places i x)) (sym last)
-              (going-put (placesIn (distinct [] all) all) 0 olds (placesIn (distinct [] all) (chunks (left - 1) words (drop (at + words) ms))) i places (placeOf (distinct [] all) m) placing);
+              subst (λ (x : ℕ). Going (placesAmong all all) 0 olds (placesAmong all rest) (i + 1) (set places i x)) (sym last)
+              (going-put (placesAmong all all) 0 olds (placesAmong all rest) i places (placeOf (distinct [] all) m) placing);
         }
 
   pub gather-same : length places ≡ length olds
@@ -355,10 +364,10 @@ module _ (ms : List ℕ) (count words : ℕ) (old olds : List ℕ) (left at d i 
   gather-done n =
       let z : left ≡ 0 = omega arith in
       let all′ : g .ds ≡ distinct [] all = rw z at (g .all) in
-      let done : Going (placesIn (distinct [] all) all) 0 olds [] i places = rw z at (g .going) in
+      let done : Going (placesAmong all all) 0 olds [] i places = rw z at (g .going) in
       record {
         masks = record { count = g .size ∙ ap length all′; is = g .is ∙ ap (λ (l : List (List ℕ)). lay 0 (flat l) old) all′ };
-        places = going-done (placesIn (distinct [] all) all) 0 olds done .is;
+        places = going-done (placesAmong all all) 0 olds done .is;
       }
 
 pub ruleset gathering = (needs, gather-start, gather-one, gather-room, gather-few, gather-place, gather-turn, gather-same, gather-done)

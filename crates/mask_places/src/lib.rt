@@ -8,10 +8,10 @@ ghost use lib.ListN.{length, take, drop};
 ghost use Rattle.refusal.specs.Lists.{pick, sameList};
 ghost use Rattle.written.specs.Over.{Put};
 ghost use Rattle.masks.specs.Masks.{isZero, index};
+ghost use Rattle.masks.specs.Answer.{parseMasks};
 ghost use Rattle.mask_places.specs.Walk.{chunks, Entered, Gathered, Spaced, Zeroed, Cleared};
-ghost use Rattle.masks.specs.Answer.{parseMasks, parsePlaces, Placed};
+ghost use Rattle.mask_places.specs.Answer.{parsePlaces, Placed};
 use masks::Masks;
-use masks::Places;
 use masks::WORDS;
 use refusal::NONE;
 use refusal::ROOM;
@@ -19,6 +19,16 @@ use refusal::Refusal;
 
 // A place for each of the most segments that a list may have, and one to spare.
 const PLACES: usize = 2048;
+
+// How many segments, how many distinct masks, and of how many words each, or why there are none.
+pub enum Places {
+    Found {
+        segments: usize,
+        masks: usize,
+        words: usize,
+    },
+    Refused(Refusal),
+}
 
 // Is the mask at `at` empty?
 fn is_zero(masks: &[u64], at: usize, words: usize) -> bool
@@ -150,7 +160,8 @@ fn put_distinct(
     places: &mut [u32],
 ) -> usize
     requires { ⌜ Spaced (now masks) count words (now out) (now places) ⌝ }
-    ensures { λ r. ⌜ Gathered (chunks count words (now (masks .entry))) (now (out .entry)) r (now (out .exit)) (now (places .entry)) (now (places .exit)) ⌝ }
+    ensures { λ r. ⌜ Gathered (chunks count words (now (masks .entry))) (now (out .entry)) r (now (out .exit))
+        (now (places .entry)) (now (places .exit)) ⌝ }
 {
     let mut left = count;
     let mut at: usize = 0;
@@ -192,7 +203,9 @@ fn fill_places(
     places: &mut [u32],
 ) -> Places
     requires { ⌜ Cleared (now out) (now places) ⌝ }
-    ensures { λ r. ⌜ Placed r (length (now (segments .entry))) (now (segments .exit)) (length (now (masks .entry))) (now (masks .exit)) (length (now (out .entry))) (now (out .exit)) (length (now (places .entry))) (now (places .exit)) (parseMasks (length (now (segments .entry))) (length (now (masks .entry))) (now (list .entry))) ⌝ }
+    ensures { λ r. ⌜ Placed r (length (now (segments .entry))) (now (segments .exit)) (length (now (masks .entry))) (now (masks .exit))
+        (length (now (out .entry))) (now (out .exit)) (length (now (places .entry))) (now (places .exit))
+        (parseMasks (length (now (segments .entry))) (length (now (masks .entry))) (now (list .entry))) ⌝ }
 {
     match masks::segment_mask_matrix(list, segments, masks) {
         Masks::Count {
@@ -220,7 +233,10 @@ pub fn place_masks(
     out: &mut [u64],
     places: &mut [u32],
 ) -> Places
-    ensures { λ r. ⌜ Placed r (length (now (segments .entry))) (now (segments .exit)) (length (now (masks .entry))) (now (masks .exit)) (length (now (out .entry))) (now (out .exit)) (length (now (places .entry))) (now (places .exit)) (parsePlaces (length (now (segments .entry))) (length (now (masks .entry))) (length (now (out .entry))) (length (now (places .entry))) (now (list .entry))) ⌝ }
+    ensures { λ r. ⌜ Placed r (length (now (segments .entry))) (now (segments .exit)) (length (now (masks .entry))) (now (masks .exit))
+        (length (now (out .entry))) (now (out .exit)) (length (now (places .entry))) (now (places .exit))
+        (parsePlaces (length (now (segments .entry))) (length (now (masks .entry))) (length (now (out .entry))) (length (now (places .entry)))
+        (now (list .entry))) ⌝ }
 {
     clear_both(out, places);
     if too_short(out.len(), places.len()) {

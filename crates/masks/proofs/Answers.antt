@@ -30,11 +30,9 @@ use Rattle.segments.specs.Answer as seg
 use Rattle.segments.proofs.Answers.{length-padded, length-starts, few-segments}
 use Rattle.masks.specs.declared.Masks.{Masks}
 use Rattle.masks.specs.declared.Masks.the-variants.{Count, Refused}
-use Rattle.masks.specs.declared.Places.{Places}
-use Rattle.masks.specs.declared.Places.the-variants as place
 use Rattle.masks.specs.Masks.{wordsFor, maskOf, masksAt, matrix, flat}
 use Rattle.masks.specs.Walk.{lows}
-use Rattle.masks.specs.Answer.{said, told, parseMasks, counted, masksIn, Matrix, Ready}
+use Rattle.masks.specs.Answer.{said, parseMasks, counted, masksIn, Matrix, Ready}
 use Rattle.masks.proofs.Packs.{length-masks, length-matrix}
 
 -- How many transitions a list has: no more than 256
@@ -231,7 +229,7 @@ module _ (w a b : List ℕ) {d : List ℕ} (z : d ≡ zeros (length b)) where
 
 pub ruleset answering = (needs, length-replicate, no-room, ready, matrix-found, matrix-refused)
 
--- `said` and `told` take no two answers to one: what they say gives the answer back
+-- `said` takes no two answers to one: what it says gives the answer back
 
 abbrev back : Said → Masks
 back (ok l) = Count (getD l 0 0) (getD l 1 0)
@@ -243,14 +241,3 @@ back-said (Refused r) = refl
 
 pub said-one : (x y : Masks) → said x ≡ said y → x ≡ y
 said-one x y e = sym (back-said x) ∙ ap back e ∙ back-said y
-
-abbrev back-places : Said → Places
-back-places (ok l) = place.Found (getD l 0 0) (getD l 1 0) (getD l 2 0)
-back-places (no n p) = place.Refused (record { number = n; place = p })
-
-back-told : (x : Places) → back-places (told x) ≡ x
-back-told (place.Found segments masks words) = refl
-back-told (place.Refused r) = refl
-
-pub told-one : (x y : Places) → told x ≡ told y → x ≡ y
-told-one x y e = sym (back-told x) ∙ ap back-places e ∙ back-told y

@@ -1,6 +1,6 @@
 -- The sheet's example of segments and masks, by computation: "Sets {48..57} and {48, 97..122}". Assumes nothing.
 use Prim.Native.Nat.{ℕ}
-use mathlib.Core.Path.{_≡_, refl}
+use mathlib.Core.Path.{_≡_, refl, ap}
 use mathlib.Core.List.{List, [], _∷_}
 use Rattle.refusal.specs.Lists.{sameList, firstEqual}
 use Rattle.transitions.specs.Transition.{Transition, Pair, set, key, anyHas, holds, holdAt, orderly, inOrder}
@@ -36,5 +36,5 @@ unfolding masksAt maskOf starts startsFrom insert cutSpans cutAll cutsOf clip cl
 two-masks = refl
 
 pub two-distinct : distinctOf two ≡ (3 ∷ []) ∷ (1 ∷ []) ∷ (2 ∷ []) ∷ []
-unfolding masksAt maskOf starts startsFrom insert cutSpans cutAll cutsOf clip clips intervals allIntervals holds holdAt anyHas wordOf pack isZero sameList firstEqual addNew distinct
-two-distinct = refl
+unfolding isZero sameList firstEqual addNew distinct
+two-distinct = ap (distinct []) two-masks

@@ -252,9 +252,11 @@ module _ (w : List ℕ) (tag size p : ℕ) where
       (λ c. tag-cases tag 4 (λ h. rising w (size / 8) p (order-of-4 h o)) (λ d. one-pair (omega (arith, wildcard-shape tag size a b c d s .1)))))
 
   module _ (point : ℕ) where
+    abbrev any : Bool
+    any = anyHas (pairsAt w (size / 8) p) (point + origin)
+
     -- any record but an atom holds what its pairs do, or what they do not
-    by-pairs : (tag ≡ 1 → ⊥) → shapeOf tag size ≡ true →
-        holds (transOf w tag size p) point ≡ pick (leb 4 tag) (not (anyHas (pairsAt w (size / 8) p) (point + origin))) (anyHas (pairsAt w (size / 8) p) (point + origin))
+    by-pairs : (tag ≡ 1 → ⊥) → shapeOf tag size ≡ true → holds (transOf w tag size p) point ≡ pick (leb 4 tag) (not any) any
     unfolding holds anyHas pairsAt
     by-pairs a s =
         tag-cases tag 2

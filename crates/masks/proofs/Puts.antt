@@ -88,7 +88,8 @@ module _ (w : List ℕ) (left at point : ℕ) {few : ℕ} (n : 0 < left) (f : fe
     pub mask-turn : {x next : ℕ} → x ≡ wordOf (holdAt (transFrom w few at) point) → next ≡ nextOf w few at →
         Going xs k old (maskOf (transFrom w (left - few) next) point) (m + 1) (set out m x)
     mask-turn {x} e h =
-        rw (h, e) (going-put xs k old (maskOf (transFrom w (left - few) (nextOf w few at)) point) m out (wordOf (holdAt (transFrom w few at) point)) (rw mask-open at g))
+        rw (h, e)
+        (going-put xs k old (maskOf (transFrom w (left - few) (nextOf w few at)) point) m out (wordOf (holdAt (transFrom w few at) point)) (rw mask-open at g))
 
   pub mask-front : Fit w left at → Fit w few at
   mask-front s = fit-front w few (left - few) left at parts s

@@ -1,5 +1,5 @@
 -- What the calls for masks answer, and leave in the lent buffers. w is the list's bytes, x the list, s, n and d how many numbers the buffers
--- for segments, masks and distinct masks have, p the one for their places. Assumes nothing.
+-- for segments, masks and distinct masks have. Assumes nothing.
 use Prim.Native.Nat.{ℕ, _≤_}
 use mathlib.Core.Path.{_≡_}
 use mathlib.Core.List.{List, [], _∷_}
@@ -15,9 +15,7 @@ use Rattle.segments.specs.Segments.{cutsOf, starts}
 use Rattle.segments.specs.Answer.{parseFor, segmentsIn}
 use Rattle.masks.specs.declared.Masks.{Masks}
 use Rattle.masks.specs.declared.Masks.the-variants.{Count, Refused}
-use Rattle.masks.specs.declared.Places.{Places}
-use Rattle.masks.specs.declared.Places.the-variants as places
-use Rattle.masks.specs.Masks.{wordsFor, matrix, flat, distinctOf, placesOf}
+use Rattle.masks.specs.Masks.{wordsFor, matrix, flat, distinctOf}
 
 -- how many masks, and of how many words each, or a refusal
 abbrev pub said : Masks → Said
@@ -53,32 +51,6 @@ pub record Distinct (r : Masks) (s : ℕ) (segments : List ℕ) (n : ℕ) (masks
   pub low-high : segments ≡ segmentsIn s x
   pub each : masks ≡ masksIn matrix n x
   pub leaves : distinct ≡ masksIn distinctOf d x
-
--- Where each segment's mask stands among the distinct ones, which row building asks for
-
--- how many segments, how many distinct masks, and of how many words each, or a refusal
-abbrev pub told : Places → Said
-told (places.Found segments masks words) = ok (segments ∷ masks ∷ words ∷ [])
-told (places.Refused r) = no (r .number) (r .place)
-
--- a place for each of the 2,047 segments that a list may have, with one to spare
-unfoldable pub parsePlaces : ℕ → ℕ → ℕ → ℕ → List ℕ → Parsed
-parsePlaces s n d p w = pick (ltb p 2048) (refused ROOM 0) (parseDistinct s n d w)
-
-unfoldable pub foundIn : Parsed → Said
-foundIn (parsed ts) = ok (length (starts (cutsOf ts)) ∷ length (distinctOf ts) ∷ wordsFor (length ts) ∷ [])
-foundIn (refused k p) = no k p
-
-unfoldable pub placedIn : ℕ → Parsed → List ℕ
-placedIn n (parsed ts) = padded n (placesOf ts)
-placedIn n (refused k p) = zeros n
-
-pub record Placed (r : Places) (s : ℕ) (segments : List ℕ) (n : ℕ) (masks : List ℕ) (d : ℕ) (distinct : List ℕ) (p : ℕ) (places : List ℕ) (x : Parsed) : Type 0 where
-  pub says : told r ≡ foundIn x
-  pub low-high : segments ≡ segmentsIn s x
-  pub each : masks ≡ masksIn matrix n x
-  pub once : distinct ≡ masksIn distinctOf d x
-  pub leaves : places ≡ placedIn p x
 
 -- On the way there: the segments of an accepted list stand, and the buffer for masks is empty
 pub record Ready (w segments : List ℕ) (count : ℕ) (masks : List ℕ) : Type 0 where

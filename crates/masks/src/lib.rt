@@ -1,5 +1,5 @@
 // The masks of the segments of a list of transitions: which transitions hold a segment, 64 to a word, for each segment. A list may be of any
-// length and hold any bytes. The answer `Places` is that of `mask_places` above, whose definitions stand here with the others.
+// length and hold any bytes.
 ghost use mathlib.Core.Path.{_≡_};
 ghost use mathlib.Core.Bool.{true};
 ghost use Prim.Native.Nat.{_+_, _*_, _/_, _≤_, _<_, min};
@@ -39,16 +39,6 @@ struct Span {
 // How many masks there are, and of how many words each, or why there are none.
 pub enum Masks {
     Count { masks: usize, words: usize },
-    Refused(Refusal),
-}
-
-// How many segments, how many distinct masks, and of how many words each, or why there are none.
-pub enum Places {
-    Found {
-        segments: usize,
-        masks: usize,
-        words: usize,
-    },
     Refused(Refusal),
 }
 
@@ -356,7 +346,8 @@ fn put_columns(list: &[u8], n: usize, segments: &[u32], count: usize, out: &mut 
     requires points { ⌜ 2 * count ≤ length (now segments) ⌝ }
     requires room { ⌜ count ≤ length (now out) ⌝ }
     requires empty { ⌜ now out ≡ zeros (length (now out)) ⌝ }
-    ensures { λ r. ⌜ Put (flat (masksAt (transFrom (now (list .entry)) n 0) (lows (now (segments .entry)) count 0))) 0 (now (out .entry)) r (now (out .exit)) ⌝ }
+    ensures { λ r. ⌜ Put (flat (masksAt (transFrom (now (list .entry)) n 0) (lows (now (segments .entry)) count 0))) 0
+        (now (out .entry)) r (now (out .exit)) ⌝ }
 {
     let mut i = n;
     while 0 < i {
@@ -372,7 +363,8 @@ fn put_rows(list: &[u8], n: usize, segments: &[u32], count: usize, out: &mut [u6
     requires sound { ⌜ Fit (now list) n 0 ⌝ }
     requires points { ⌜ 2 * count ≤ length (now segments) ⌝ }
     requires room { ⌜ 0 + length (flat (masksAt (transFrom (now list) n 0) (lows (now segments) count 0))) ≤ length (now out) ⌝ }
-    ensures { λ r. ⌜ Put (flat (masksAt (transFrom (now (list .entry)) n 0) (lows (now (segments .entry)) count 0))) 0 (now (out .entry)) r (now (out .exit)) ⌝ }
+    ensures { λ r. ⌜ Put (flat (masksAt (transFrom (now (list .entry)) n 0) (lows (now (segments .entry)) count 0))) 0
+        (now (out .entry)) r (now (out .exit)) ⌝ }
 {
     let mut left = count;
     let mut at: usize = 0;
@@ -392,7 +384,8 @@ fn put_masks(list: &[u8], n: usize, segments: &[u32], count: usize, out: &mut [u
     requires points { ⌜ 2 * count ≤ length (now segments) ⌝ }
     requires room { ⌜ 0 + length (flat (masksAt (transFrom (now list) n 0) (lows (now segments) count 0))) ≤ length (now out) ⌝ }
     requires empty { ⌜ now out ≡ zeros (length (now out)) ⌝ }
-    ensures { λ r. ⌜ Put (flat (masksAt (transFrom (now (list .entry)) n 0) (lows (now (segments .entry)) count 0))) 0 (now (out .entry)) r (now (out .exit)) ⌝ }
+    ensures { λ r. ⌜ Put (flat (masksAt (transFrom (now (list .entry)) n 0) (lows (now (segments .entry)) count 0))) 0
+        (now (out .entry)) r (now (out .exit)) ⌝ }
 {
     if 0 < n {
         if n <= 64 {
@@ -415,7 +408,8 @@ fn transition_count(list: &[u8]) -> usize
 // The masks of the segments that stand, into a buffer of zeros.
 fn fill_masks(list: &[u8], segments: &[u32], count: usize, masks: &mut [u64]) -> Masks
     requires { ⌜ Ready (now list) (now segments) count (now masks) ⌝ }
-    ensures { λ r. ⌜ Matrix r (length (now (segments .entry))) (now (segments .entry)) (length (now (masks .entry))) (now (masks .exit)) (parse (now (list .entry))) ⌝ }
+    ensures { λ r. ⌜ Matrix r (length (now (segments .entry))) (now (segments .entry)) (length (now (masks .entry))) (now (masks .exit))
+        (parse (now (list .entry))) ⌝ }
 {
     let n = transition_count(list);
     put_masks(list, n, segments, count, masks);
@@ -428,7 +422,8 @@ fn fill_masks(list: &[u8], segments: &[u32], count: usize, masks: &mut [u64]) ->
 // The segments of a list as low, high, and for each its mask. Refused: every number of both buffers is 0. Accepted: behind the answer's
 // numbers there are zeros.
 pub fn segment_mask_matrix(list: &[u8], segments: &mut [u32], masks: &mut [u64]) -> Masks
-    ensures { λ r. ⌜ Matrix r (length (now (segments .entry))) (now (segments .exit)) (length (now (masks .entry))) (now (masks .exit)) (parseMasks (length (now (segments .entry))) (length (now (masks .entry))) (now (list .entry))) ⌝ }
+    ensures { λ r. ⌜ Matrix r (length (now (segments .entry))) (now (segments .exit)) (length (now (masks .entry))) (now (masks .exit))
+        (parseMasks (length (now (segments .entry))) (length (now (masks .entry))) (now (list .entry))) ⌝ }
 {
     written_words::clear_words(masks);
     if masks.len() < WORDS {

@@ -20,10 +20,11 @@ use Rattle.transitions.specs.Read.{Parsed, parsed, refused, parse, accepted}
 use Rattle.segments.specs.Segments.{Asc, cutsOf, starts, startsFrom, segments, segmentsFrom}
 use Rattle.segments.specs.Answer.{segmentsIn}
 use Rattle.segments.proofs.Answers.{length-starts, few-segments}
-use Rattle.masks.specs.declared.Places.{Places}
-use Rattle.masks.specs.declared.Places.the-variants as place
+use Rattle.mask_places.specs.declared.Places.{Places}
+use Rattle.mask_places.specs.declared.Places.the-variants as place
 use Rattle.masks.specs.Masks.{maskOf, masksAt, matrix, flat, isZero, distinctOf, placeOf, placesIn, placesOf}
-use Rattle.masks.specs.Answer.{told, parseDistinct, parsePlaces, foundIn, masksIn, placedIn, Placed}
+use Rattle.masks.specs.Answer.{parseDistinct, masksIn}
+use Rattle.mask_places.specs.Answer.{told, parsePlaces, foundIn, placedIn, Placed}
 use Rattle.masks.proofs.Keeps.{place-some, place-none}
 use Rattle.masks.proofs.Packs.{length-masks}
 use Rattle.mask_places.proofs.Distincts.{length-places, few-distinct}

@@ -12,7 +12,7 @@ ghost use Rattle.row_laws.specs.Row.{Sorted, numbers, asciiPart};
 ghost use Rattle.row_edges.specs.Edges.{noGoal};
 ghost use Rattle.rows.specs.Answer.{lent, parseRows, Builds};
 ghost use Rattle.rows.specs.Aimed.{aimed, seenWords, joined, targetsOf, Split, Filled};
-use masks::Places;
+use mask_places::Places;
 use refusal::DEAD_STATE;
 use refusal::NONE;
 use refusal::Refusal;

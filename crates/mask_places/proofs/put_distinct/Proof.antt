@@ -22,10 +22,8 @@ put-distinct-spec =
     (λ c. search gathering)
     (λ c κs. search gathering)
     (λ c.
-    omega (
-      arith,
-      gather-one _ _ _ _ _ _ _ _ _ _ _ (c .before .before .before .before .before .before .loop .inv) (c .before .before .before .before .before .loop-test .taken),
-    ))
+    let t = c .before .before .before .before .before in
+    omega (arith, gather-one _ _ _ _ _ _ _ _ _ _ _ (t .before .loop .inv) (t .loop-test .taken)))
     (λ c. search gathering)
     (λ c. search gathering)
     (λ c. search gathering)

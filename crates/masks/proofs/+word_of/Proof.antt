@@ -36,14 +36,10 @@ pub +word-of-spec : {M : Type 1} → statement M
     (λ c. search words)
     (λ c. omega (arith, word-size _ _ _ (c .before .before .before .pre .1 .0) (c .before .if1 .left)))
     (λ c κs. search words)
-    (λ c. omega (arith, word-size _ _ _ (c .before .before .before .before .pre .1 .0) (c .before .before .if1 .left)))
+    (λ c. let t = c .before .before in omega (arith, word-size _ _ _ (t .before .before .pre .1 .0) (t .if1 .left)))
     (λ c κs. search words)
-    (λ c. omega (arith, word-size _ _ _ (c .before .before .before .before .before .pre .1 .0) (c .before .before .before .if1 .left)))
-    (λ c.
-    omega (
-      arith,
-      word-value _ _ _ (c .before .before .before .before .before .pre .1 .0) (c .before .before .before .if1 .left) (c .before .size-at .ensures .0),
-    ))
+    (λ c. let t = c .before .before .before in omega (arith, word-size _ _ _ (t .before .before .pre .1 .0) (t .if1 .left)))
+    (λ c. let t = c .before .before .before in omega (arith, word-value _ _ _ (t .before .before .pre .1 .0) (t .if1 .left) (c .before .size-at .ensures .0)))
     (λ c. search words)
     (λ c κs. search words)
     (λ c. search words)
