@@ -21,7 +21,7 @@ use Rattle.segments.specs.Answer.{segmentsIn}
 use Rattle.segments.proofs.Answers.{few-segments}
 use Rattle.masks.specs.declared.Masks.{Masks}
 use Rattle.masks.specs.declared.Masks.the-variants.{Count, Refused}
-use Rattle.masks.specs.Masks.{wordsFor, masksAt, matrix, flat, distinct, distinctOf, placesIn, placesOf}
+use Rattle.masks.specs.Masks.{wordsFor, matrix, flat, distinct, distinctOf, placesIn, placesOf}
 use Rattle.masks.specs.Answer.{said, parseMasks, parseDistinct, counted, masksIn, Matrix}
 use Rattle.masks.proofs.Packs.{length-masks, Wide, wide-masks, length-flat, few-wide}
 use Rattle.masks.proofs.Keeps.{wide-distinct}

@@ -8,7 +8,7 @@ use native.Mathlib.Nat.{suc-mul, mul-le-mul-right, zero-add}
 use native.Mathlib.Omega.{arith}
 use borrow.Author.Needs.{needs}
 use borrow.Author.Tests.{lt-ltb, le-ltb, eq-eqb, ne-eqb}
-use lib.Dec.{ltb, eqb}
+use lib.Dec.{eqb}
 use lib.ListN.{length, getD, take, drop, set, length-append, length-drop}
 use lib.Seq.{take-add, take-at, drop-at, drop-cons, drop-drop, length-take-le}
 use Rattle.refusal.specs.Lists.{pick, sameList, firstEqual}

@@ -9,7 +9,7 @@ use borrow.Author.Needs.{needs}
 use borrow.Author.Tests.{lt-ltb, le-ltb}
 use mir.Val.{Fits}
 use mir.Syntax.{w64}
-use lib.ListN.{length, getD, length-replicate, length-append}
+use lib.ListN.{length, getD, length-replicate}
 use Rattle.refusal.specs.declared.Refusal.{Refusal}
 use Rattle.refusal.specs.Said.{Said, ok, no, ROOM}
 use Rattle.written.specs.Over.{lay, Put, zeros, padded}
@@ -30,7 +30,7 @@ use Rattle.segments.specs.Answer as seg
 use Rattle.segments.proofs.Answers.{length-padded, length-starts, few-segments}
 use Rattle.masks.specs.declared.Masks.{Masks}
 use Rattle.masks.specs.declared.Masks.the-variants.{Count, Refused}
-use Rattle.masks.specs.Masks.{wordsFor, maskOf, masksAt, matrix, flat}
+use Rattle.masks.specs.Masks.{wordsFor, masksAt, matrix, flat}
 use Rattle.masks.specs.Walk.{lows}
 use Rattle.masks.specs.Answer.{said, parseMasks, counted, masksIn, Matrix, Ready}
 use Rattle.masks.proofs.Packs.{length-masks, length-matrix}

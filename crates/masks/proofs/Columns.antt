@@ -2,7 +2,6 @@
 -- list's bytes. Assumes nothing.
 use mathlib.Core.Path.{_≡_, refl, sym, ap, ap₂, _∙_}
 use mathlib.Core.List.{List, [], _∷_, _++_, append-assoc}
-use mathlib.Core.Bool.{true}
 use Prim.Native.Nat.{ℕ, zero, suc, _+_, _*_, _-_, _^_, _<_, _≤_}
 use native.Mathlib.Omega.{arith}
 use borrow.Author.Needs.{needs}
@@ -11,8 +10,8 @@ use lib.Seq.{drop-cons, drop-set-lt, getD-set-other, take-all, take-suc-set}
 use mir.Val.{Fits}
 use mir.Syntax.{w64}
 use Rattle.written.specs.Over.{over, lay, Put, zeros}
-use Rattle.transitions.specs.Transition.{Transition, origin, holds, holdAt, inOrder}
-use Rattle.transitions.specs.Bytes.{sizeAt, shapeOf, transOf}
+use Rattle.transitions.specs.Transition.{Transition, origin, holds, holdAt}
+use Rattle.transitions.specs.Bytes.{sizeAt, transOf}
 use Rattle.transitions.specs.Walk.{transAt, nextAt, transFrom, Fit}
 use Rattle.masks.specs.Masks.{bit, wordOf, pack, wordsFor, maskOf, masksAt, flat}
 use Rattle.masks.specs.Walk.{nextOf, byLow, Covers, lows, column, stacked, Columned}

@@ -1,36 +1,35 @@
 -- The laws of writing masks: the words of one, and the masks of all segments. w is the list's bytes, `at` a record's offset. Assumes nothing.
-use mathlib.Core.Path.{_≡_, refl, ap, ap₂, _∙_}
+use mathlib.Core.Path.{_≡_, ap, ap₂}
 use mathlib.Core.List.{List, _∷_, _++_}
 use mathlib.Core.Bool.{Bool}
 use Prim.Native.Nat.{ℕ, zero, suc, _+_, _-_, _<_, _≤_, min}
 use native.Mathlib.Omega.{arith}
 use borrow.Author.Needs.{needs}
-use lib.ListN.{length, getD, take, drop, set, drop-of-length-le}
-use lib.Seq.{take-all}
+use lib.ListN.{length, getD, take, drop, set}
 use Rattle.written.specs.Over.{Put}
 use Rattle.written.proofs.Going.{Going, going-start, going-done, going-room, going-turn, going-place, going-put}
 use Rattle.transitions.specs.Transition.{Transition, holds, holdAt}
 use Rattle.transitions.specs.Walk.{transAt, nextAt, transFrom, Fit}
-use Rattle.transitions.proofs.Order.{le-cases}
 use Rattle.masks.specs.Masks.{wordOf, pack, wordsFor, maskOf, masksAt, flat}
 use Rattle.masks.specs.Walk.{nextOf, lows}
-use Rattle.masks.proofs.Packs.{length-hold}
 use Rattle.masks.proofs.Words.{length-trans}
 
 -- The first records of so many, and those behind
 
 module _ (w : List ℕ) (point : ℕ) where
-  take-hold : (k r n at : ℕ) → n ≡ k + r → take k (holdAt (transFrom w n at) point) ≡ holdAt (transFrom w k at) point
+  take-hold : (k m n at : ℕ) → m ≡ min k n → take k (holdAt (transFrom w n at) point) ≡ holdAt (transFrom w m at) point
   unfolding holdAt transFrom
-  take-hold zero r n at e = refl
-  take-hold (suc k) r zero at e = absurd (omega arith)
-  take-hold (suc k) r (suc n) at e = ap (λ (l : List Bool). holds (transAt w at) point ∷ l) (take-hold k r n (nextAt w at) (omega arith))
+  take-hold zero m n at e = let z : m ≡ 0 = omega arith in rw z
+  take-hold (suc k) m zero at e = let z : m ≡ 0 = omega arith in rw z
+  take-hold (suc k) zero (suc n) at e = absurd (omega arith)
+  take-hold (suc k) (suc m) (suc n) at e = ap (λ (l : List Bool). holds (transAt w at) point ∷ l) (take-hold k m n (nextAt w at) (omega arith))
 
-  drop-hold : (k r n at : ℕ) → n ≡ k + r → drop k (holdAt (transFrom w n at) point) ≡ holdAt (transFrom w r (nextOf w k at)) point
+  drop-hold : (k m n at : ℕ) → m ≡ min k n → drop k (holdAt (transFrom w n at) point) ≡ holdAt (transFrom w (n - m) (nextOf w m at)) point
   unfolding holdAt transFrom nextOf
-  drop-hold zero r n at e = let p : n ≡ r = omega arith in rw p
-  drop-hold (suc k) r zero at e = absurd (omega arith)
-  drop-hold (suc k) r (suc n) at e = drop-hold k r n (nextAt w at) (omega arith)
+  drop-hold zero m n at e = let z : m ≡ 0 = omega arith in let y : n - 0 ≡ n = omega arith in rw (z, y)
+  drop-hold (suc k) m zero at e = let y : 0 - m ≡ 0 = omega arith in rw y
+  drop-hold (suc k) zero (suc n) at e = absurd (omega arith)
+  drop-hold (suc k) (suc m) (suc n) at e = let y : suc n - suc m ≡ n - m = omega arith in rw y (drop-hold k m n (nextAt w at) (omega arith))
 
 module _ (w : List ℕ) where
   pub fit-front : (k r n at : ℕ) → n ≡ k + r → Fit w n at → Fit w k at
@@ -51,34 +50,14 @@ module _ (w : List ℕ) (left at point : ℕ) {few : ℕ} (n : 0 < left) (f : fe
   parts : left ≡ few + (left - few)
   parts = omega arith
 
-  size : length (holdAt (transFrom w left at) point) ≡ left
-  size = length-hold (transFrom w left at) point ∙ length-trans w left at
-
-  front : take 64 (holdAt (transFrom w left at) point) ≡ holdAt (transFrom w few at) point
-  front =
-      le-cases 64 left
-      (λ h. let e : few ≡ 64 = omega arith in rw e (take-hold w point 64 (left - 64) left at (omega arith)))
-      (λ h.
-      let e : few ≡ left = omega arith in
-      rw e (take-all 64 (holdAt (transFrom w left at) point) (omega (arith, size))))
-
-  others : drop 64 (holdAt (transFrom w left at) point) ≡ holdAt (transFrom w (left - few) (nextOf w few at)) point
-  unfolding holdAt transFrom
-  others =
-      le-cases 64 left
-      (λ h. let e : few ≡ 64 = omega arith in rw e (drop-hold w point 64 (left - 64) left at (omega arith)))
-      (λ h.
-      let e : left - few ≡ 0 = omega arith in
-      let l : length (holdAt (transFrom w left at) point) ≤ 64 = omega (arith, size) in
-      rw e (drop-of-length-le (holdAt (transFrom w left at) point) l))
-
   mask-open : maskOf (transFrom w left at) point ≡ wordOf (holdAt (transFrom w few at) point) ∷ maskOf (transFrom w (left - few) (nextOf w few at)) point
   unfolding maskOf pack
   mask-open =
       let a : length (transFrom w left at) ≡ left = length-trans w left at in
       let b : length (transFrom w (left - few) (nextOf w few at)) ≡ left - few = length-trans w (left - few) (nextOf w few at) in
       let c : wordsFor left ≡ suc (wordsFor (left - few)) = omega arith in
-      rw (a, b, c) (ap₂ {C = List ℕ} (λ x y. wordOf x ∷ pack (wordsFor (left - few)) y) front others)
+      rw (a, b, c)
+      (ap₂ {C = List ℕ} (λ x y. wordOf x ∷ pack (wordsFor (left - few)) y) (take-hold w point 64 few left at f) (drop-hold w point 64 few left at f))
 
   module _ (xs : List ℕ) (k : ℕ) (old : List ℕ) (m : ℕ) (out : List ℕ) (g : Going xs k old (maskOf (transFrom w left at) point) m out) where
     pub mask-room : m < length out

@@ -31,6 +31,9 @@ first w (suc n) at z s =
     let p : suc n - 1 ≡ n = omega arith in
     record { there = s .0; shape = s .1; order = s .2; rest = rw p (s .3) }
 
+pub nonzero : {n : ℕ} → 0 < n → n ≡ 0 → ⊥
+nonzero h z = omega arith
+
 -- A word: the first bit, and twice the word of the others
 
 word-turn : (w : List ℕ) (n at point : ℕ) → (n ≡ 0 → ⊥) →
@@ -100,14 +103,4 @@ unfolding nextOf
 skip-done w zero here n i = i
 skip-done w (suc left) here n i = absurd (omega arith)
 
-module _ (w : List ℕ) (left here : ℕ) (s : Fit w left here) (n : 0 < left) where
-  pub skip-size : here + 1 + 2 ≤ length w
-  skip-size = word-size w left here s (omega arith)
-
-  pub skip-rest : {k : ℕ} → k ≡ sizeAt w (here + 1) → Fit w (left - 1) (here + 3 + k)
-  skip-rest e = word-rest w left here s (omega arith) e
-
-  pub skip-value : {k : ℕ} → k ≡ sizeAt w (here + 1) → here + 3 + k ≤ length w
-  skip-value e = word-value w left here s (omega arith) e
-
-pub ruleset skips = (needs, skip-turn, skip-done, skip-size, skip-rest, skip-value)
+pub ruleset skips = (needs, nonzero, skip-turn, skip-done, word-size, word-rest, word-value)

@@ -9,7 +9,7 @@ use borrow.Author.Needs.{needs}
 use borrow.Author.Tests.{ne-eqb, eqb-true}
 use lib.ListN.{length}
 use Rattle.transitions.specs.Transition.{atom, range, set, notSet, wildcard, origin, beyond, orderly, inOrder}
-use Rattle.transitions.specs.Intervals.{clip, clips, gaps, intervals}
+use Rattle.transitions.specs.Intervals.{Span, clip, clips, gaps, intervals}
 use Rattle.transitions.specs.Bytes.{numberAt, pairsAt, shapeOf, transOf}
 
 -- The length that a tag wants, and what lies in the bytes for it
@@ -103,18 +103,8 @@ module _ (w : List ℕ) (tag size p : ℕ) where
 
   -- How many they are
 
-  pub count-1 : {k r : ℕ} → tag ≡ 1 → k ≡ numberAt w p → r ≡ length (clip k (k + 1) []) → r ≡ length (intervals (transOf w tag size p))
-  count-1 h a e = e ∙ sym (ap length (intervals-1 h a))
-
-  pub count-2 : {low high r : ℕ} → tag ≡ 2 → low ≡ numberAt w p → high ≡ numberAt w (p + 4) → r ≡ length (clip low (high + 1) []) →
-      r ≡ length (intervals (transOf w tag size p))
-  count-2 h a b e = e ∙ sym (ap length (intervals-2 h a b))
-
-  pub count-3 : {r : ℕ} → tag ≡ 3 → r ≡ length (clips (pairsAt w (size / 8) p)) → r ≡ length (intervals (transOf w tag size p))
-  count-3 h e = e ∙ sym (ap length (intervals-3 h))
-
-  pub count-4 : {r : ℕ} → tag ≡ 4 → r ≡ length (gaps origin (pairsAt w (size / 8) p)) → r ≡ length (intervals (transOf w tag size p))
-  count-4 h e = e ∙ sym (ap length (intervals-4 h))
+  pub tag-count : {r : ℕ} {ss : List Span} → r ≡ length ss → intervals (transOf w tag size p) ≡ ss → r ≡ length (intervals (transOf w tag size p))
+  tag-count e i = e ∙ sym (ap length i)
 
   pub count-5 : (tag ≡ 1 → ⊥) → (tag ≡ 2 → ⊥) → (tag ≡ 3 → ⊥) → (tag ≡ 4 → ⊥) → 1 ≡ length (intervals (transOf w tag size p))
   unfolding clip
@@ -122,4 +112,4 @@ module _ (w : List ℕ) (tag size p : ℕ) where
 
 pub ruleset tags = (needs, order-1, order-2, order-3, order-4, order-5)
 
-pub ruleset counted-by-tag = (needs, value-1, value-2, value-high, count-1, count-2, count-3, count-4, count-5)
+pub ruleset counted-by-tag = (needs, value-1, value-2, value-high, intervals-1, intervals-2, intervals-3, intervals-4, tag-count, count-5)

@@ -3,7 +3,7 @@ use mathlib.Core.Path.{_≡_}
 use native.Mathlib.Omega.{arith}
 use Rattle.transitions.specs.Walk.{Fit}
 use Rattle.masks.specs.Walk.{nextOf}
-use Rattle.masks.proofs.Words.{skips, skip-size, skip-value}
+use Rattle.masks.proofs.Words.{skips, nonzero, word-size, word-value}
 use Rattle.masks.proofs.skip.Statement.{statement}
 use Rattle.masks.proofs.skip.Tie as tie
 
@@ -20,10 +20,10 @@ skip-spec =
     Inv-loop
     μ-loop
     (λ c. search skips)
-    (λ c. omega (arith, skip-size _ _ _ (c .before .loop .inv .0) (c .loop-test .taken)))
+    (λ c. omega (arith, word-size _ _ _ (c .before .loop .inv .0) (nonzero (c .loop-test .taken))))
     (λ c κs. search skips)
-    (λ c. omega (arith, skip-size _ _ _ (c .before .before .loop .inv .0) (c .before .loop-test .taken)))
-    (λ c. omega (arith, skip-value _ _ _ (c .before .before .loop .inv .0) (c .before .loop-test .taken) (c .size-at .ensures .0)))
+    (λ c. omega (arith, word-size _ _ _ (c .before .before .loop .inv .0) (nonzero (c .before .loop-test .taken))))
+    (λ c. omega (arith, word-value _ _ _ (c .before .before .loop .inv .0) (nonzero (c .before .loop-test .taken)) (c .size-at .ensures .0)))
     (λ c. search skips)
     (λ c. search skips)
     (λ c. search skips)
