@@ -15,9 +15,8 @@ use Rattle.written.specs.Over.{lay, zeros, padded}
 use Rattle.written.proofs.Overs.{lay-zeros}
 use Rattle.transitions.specs.Transition.{Transition}
 use Rattle.transitions.specs.Read.{Parsed, parsed, refused, parse, isParsed, accepted}
-use Rattle.transitions.proofs.Order.{le-cases}
 use Rattle.segments.specs.Segments.{cutsOf, starts}
-use Rattle.segments.specs.Answer.{segmentsIn}
+use Rattle.segments.specs.Answer.{parseFor, segmentsIn}
 use Rattle.segments.proofs.Answers.{few-segments}
 use Rattle.masks.specs.declared.Masks.{Masks}
 use Rattle.masks.specs.declared.Masks.the-variants.{Count, Refused}
@@ -25,7 +24,7 @@ use Rattle.masks.specs.Masks.{wordsFor, matrix, flat, distinct, distinctOf, pla
 use Rattle.masks.specs.Answer.{said, parseMasks, parseDistinct, counted, masksIn, Matrix}
 use Rattle.masks.proofs.Packs.{length-masks, Wide, wide-masks, length-flat, few-wide}
 use Rattle.masks.proofs.Keeps.{wide-distinct}
-use Rattle.masks.proofs.Answers.{few-from, roomy, short}
+use Rattle.masks.proofs.Answers.{few-from}
 use Rattle.mask_places.specs.declared.Places.{Places}
 use Rattle.mask_places.specs.declared.Places.the-variants as place
 use Rattle.mask_places.specs.Walk.{chunks, Gathered, Spaced, Zeroed, Cleared}
@@ -42,22 +41,18 @@ record Each (s n : ℕ) (w : List ℕ) (c k : ℕ) (ms : List ℕ) : Type 0 wher
   words : k ≡ wordsFor (length ts)
   leaves : ms ≡ padded n (flat (matrix ts))
 
+-- what is accepted was not refused for want of room
+not-short : (b : Bool) {x : Parsed} {ts : List Transition} → pick b (refused ROOM 0) x ≡ parsed ts → x ≡ parsed ts
+not-short true e = let z : _≡_ {A = ℕ} 0 1 = cc in absurd (omega arith)
+not-short false e = e
+
 all-room : (s n : ℕ) (w : List ℕ) (ts : List Transition) → parseMasks s n w ≡ parsed ts → parse w ≡ parsed ts
-unfolding parseMasks
-all-room s n w ts e =
-    le-cases 8192 n
-    (λ h.
-    le-cases 4096 s
-    (λ g. sym (roomy s w g) ∙ (rw (le-ltb n 8192 h) at e))
-    (λ g. let f = sym (short s w g) ∙ (rw (le-ltb n 8192 h) at e) in let z : _≡_ {A = ℕ} 0 1 = cc in absurd (omega arith)))
-    (λ h. let f = rw (lt-ltb n 8192 h) at e in let z : _≡_ {A = ℕ} 0 1 = cc in absurd (omega arith))
+unfolding parseMasks parseFor
+all-room s n w ts e = not-short (ltb s 4096) (not-short (ltb n 8192) e)
 
 pub accepted-list : (s n d : ℕ) (w : List ℕ) (ts : List Transition) → parseDistinct s n d w ≡ parsed ts → parse w ≡ parsed ts
 unfolding parseDistinct
-accepted-list s n d w ts e =
-    le-cases 8192 d
-    (λ h. all-room s n w ts (rw (le-ltb d 8192 h) at e))
-    (λ h. let f = rw (lt-ltb d 8192 h) at e in let z : _≡_ {A = ℕ} 0 1 = cc in absurd (omega arith))
+accepted-list s n d w ts e = all-room s n w ts (not-short (ltb d 8192) e)
 
 each : (s n : ℕ) (w : List ℕ) (c k : ℕ) (ms : List ℕ) (x : Parsed) → parseMasks s n w ≡ x → said (Count c k) ≡ counted matrix x →
     ms ≡ masksIn matrix n x → Each s n w c k ms
