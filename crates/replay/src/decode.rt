@@ -1,21 +1,9 @@
 // The record about decoding: a table's words are decoded into a room, and the answer and all of the room are compared.
-use crate::Replayed;
-use crate::read;
 use codec::Decoded;
 use refusal::ROOM_NUMBERS;
-
-// The sum of the sums after each number, which tells numbers in another order apart.
-fn check(room: &[u32]) -> u32 {
-    let mut sum = 0;
-    let mut sums = 0;
-    let mut i = 0;
-    while i < room.len() {
-        sum = std::num::wrapping_add_u32(sum, room[i]);
-        sums = std::num::wrapping_add_u32(sums, sum);
-        i += 1;
-    }
-    sums
-}
+use replay_io::check;
+use replay_io::read;
+use replay_io::tally::Replayed;
 
 // A table has no refusal, and a refusal no table: what a record does not tell of is 0.
 fn same_answer(decoded: Decoded, recorded: &[u8]) -> bool {
@@ -42,12 +30,13 @@ fn same_answer(decoded: Decoded, recorded: &[u8]) -> bool {
 // No number of the room is 0 before, so that one which decoding leaves alone changes the check.
 pub(crate) fn replay_decode(record: &[u8]) -> Replayed {
     let n = read::small(record, 1);
-    let words = read::words(read::after(record, 2));
     let recorded = read::after(record, 2 + 4 * n);
+    let mut words = [0u32; 255];
+    let k = read::put_words(read::part(record, 2, 4 * n), &mut words);
     let mut room = [1u32; ROOM_NUMBERS];
-    let decoded = codec::decode(read::first_words(&words, n), &mut room);
+    let decoded = codec::decode(&words[..k], &mut room);
     Replayed {
         more: 10 + 4 * n,
-        same: same_answer(decoded, recorded) & (check(&room) == read::word(recorded, 5)),
+        same: same_answer(decoded, recorded) & (check::short(&room) == read::word(recorded, 5)),
     }
 }

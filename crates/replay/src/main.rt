@@ -13,34 +13,21 @@
 // It prints how many of the bytes it came through, then for each kind how many of our answers are equal and how many differ. A record
 // that cannot be read ends the replay, which the first line shows, so that a damaged sample cannot pass.
 mod decode;
-mod read;
 mod runs;
-mod tally;
 
 use libc::STDIN_FILENO;
-use tally::PLACES;
+use replay_io::read;
+use replay_io::tally;
+use replay_io::tally::Replayed;
 
-// The end of each kind's line.
-const ENDS: [u8; 72] =
-    *b" differ: classify\n differ:    class\n differ:     scan\n differ:   decode\n";
-
-// What came of a record: how many bytes it has behind its first, and whether our answer is the recorded one.
-struct Replayed {
-    more: usize,
-    same: bool,
-}
-
-// The record at the front of what is left. One of no kind is longer than any sample. A new kind gets an arm here and a place in `tally`.
+// The record at the front of what is left. One of no kind is longer than any sample. A new kind gets an arm here, a line in `print_kinds` and two counts in `report`.
 fn replay_record(rest: &[u8]) -> Replayed {
     match read::byte(rest, 0) {
         1 => runs::replay_classify(rest),
         2 => runs::replay_class(rest),
         3 => runs::replay_scan(rest),
         4 => decode::replay_decode(rest),
-        _ => Replayed {
-            more: 65536,
-            same: false,
-        },
+        _ => tally::UNKNOWN,
     }
 }
 
@@ -49,22 +36,29 @@ fn replay(sample: &[u8], counts: &mut [usize]) -> usize {
     let mut at = 0;
     while at < sample.len() {
         let rest = &sample[at..];
-        let replayed = replay_record(rest);
-        let more = replayed.more;
-        if rest.len() <= more {
+        let bytes = tally::count(counts, rest, replay_record(rest));
+        if bytes == 0 {
             return at;
         }
-        tally::count(counts, read::byte(rest, 0), replayed.same);
-        at += 1 + more;
+        at += bytes;
     }
     at
 }
 
+// The name of each kind ends its line.
+fn print_kinds(counts: &[usize]) {
+    tally::print_kind(counts, 1, b"classify\n");
+    tally::print_kind(counts, 2, b"   class\n");
+    tally::print_kind(counts, 3, b"    scan\n");
+    tally::print_kind(counts, 4, b"  decode\n");
+}
+
+// Two counts for each kind, from 0 on.
 fn report(sample: &[u8]) {
-    let mut counts = [0usize; PLACES];
+    let mut counts = [0usize; 10];
     let at = replay(sample, &mut counts);
     tally::print(at, b" of ", sample.len(), b" bytes\n");
-    tally::print_all(&counts, &ENDS);
+    print_kinds(&counts);
 }
 
 // Of an input that fills the buffer there may be more: it is no sample, and nothing is printed.

@@ -1,6 +1,4 @@
 // The records about runs: each has a proved function answer what the original was asked, and compares.
-use crate::Replayed;
-use crate::read;
 use ascii_run::Answered;
 use ascii_run::Run;
 use ascii_run::RunAnswer;
@@ -8,6 +6,8 @@ use ascii_run::RunWords;
 use ascii_run::Scanned;
 use range_class::AsciiRangeClass;
 use range_class::RangeClass;
+use replay_io::read;
+use replay_io::tally::Replayed;
 
 // Where symbol k leads: its bit says whether it loops.
 fn target(bits: &[u8], k: usize, state: u16, other: u16) -> u16 {
@@ -110,8 +110,9 @@ fn same_scan(run: RunAnswer, input: &[u8], recorded: &[u8]) -> bool {
 
 pub(crate) fn replay_scan(record: &[u8]) -> Replayed {
     let n = read::small(record, 1);
-    let words = read::words(read::after(record, 2));
-    let run = run_read::read_alone(read::first_words(&words, n));
+    let mut words = [0u32; 255];
+    let k = read::put_words(read::part(record, 2, 4 * n), &mut words);
+    let run = run_read::read_alone(&words[..k]);
     let rest = read::after(record, 2 + 4 * n);
     let bytes = read::size(rest, 0);
     let input = read::part(rest, 2, bytes);

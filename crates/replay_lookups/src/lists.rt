@@ -1,25 +1,13 @@
 // The records about what is written into an output: how many numbers, and a check over all of the output.
-use crate::Replayed;
-use crate::read;
 use encode::Encoded;
 use mode_flags::Listed;
 use refusal::MAX_WORDS;
+use replay_io::check;
+use replay_io::read;
+use replay_io::tally::Replayed;
 
 // A refusal is a length that no output has.
 const REFUSED: usize = 65535;
-
-// The sum of the sums after each number, which tells numbers in another order apart.
-fn check(out: &[u32]) -> u32 {
-    let mut sum = 0;
-    let mut sums = 0;
-    let mut i = 0;
-    while i < out.len() {
-        sum = std::num::wrapping_add_u32(sum, out[i]);
-        sums = std::num::wrapping_add_u32(sums, sum);
-        i += 1;
-    }
-    sums
-}
 
 fn listed(answer: Listed) -> usize {
     match answer {
@@ -49,6 +37,6 @@ pub(crate) fn replay_list(room: &[u32], kind: u8, record: &[u8]) -> Replayed {
     let length = write(room, kind, &mut out);
     Replayed {
         more: 6,
-        same: (length == read::size(record, 1)) & (check(&out) == read::word(record, 3)),
+        same: (length == read::size(record, 1)) & (check::short(&out) == read::word(record, 3)),
     }
 }

@@ -1,11 +1,11 @@
 // The records whose answer is a number, and those of a scan.
-use crate::Replayed;
-use crate::read;
 use accepts::Accepted;
 use continuations::Continuation;
 use coverage::Covered;
 use modes::Start;
 use modes::StateCount;
+use replay_io::read;
+use replay_io::tally::Replayed;
 use state_run::StateScan;
 use targets::Target;
 
@@ -17,7 +17,7 @@ const REFUSED: u32 = 4294967294;
 
 fn start(answer: Start) -> u32 {
     match answer {
-        Start::At(state) => read::wider(state),
+        Start::At(state) => state as u32,
         Start::Nowhere => NONE,
         Start::NotTable => REFUSED,
     }
@@ -41,7 +41,7 @@ fn accepted(answer: Accepted) -> u32 {
 
 fn target(answer: Target) -> u32 {
     match answer {
-        Target::To(state) => read::wider(state),
+        Target::To(state) => state as u32,
         Target::NoState => REFUSED,
         Target::NotTable => REFUSED,
     }

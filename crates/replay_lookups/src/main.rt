@@ -21,23 +21,13 @@
 // that cannot be read ends the replay, which the first line shows, so that a damaged sample cannot pass; so does a table that is refused.
 mod lists;
 mod lookups;
-mod read;
-mod tally;
 
 use codec::Decoded;
 use libc::STDIN_FILENO;
 use refusal::ROOM_NUMBERS;
-use tally::PLACES;
-
-// The end of each kind's line.
-const ENDS: [u8; 377] =
-    *b" differ:          mode_start\n differ:         state_count\n differ:              accept\n differ:        ascii_target\n differ:         char_target\n differ:          eof_target\n differ:   char_continuation\n differ:    eof_continuation\n differ:            coverage\n differ:      scan_ascii_run\n differ: compiled_mode_flags\n differ:   mode_state_counts\n differ:              encode\n";
-
-// What came of a record: how many bytes it has behind its first, and whether our answer is the recorded one.
-struct Replayed {
-    more: usize,
-    same: bool,
-}
+use replay_io::read;
+use replay_io::tally;
+use replay_io::tally::Replayed;
 
 // The record at the front of what is left. One of no kind is longer than any sample.
 fn replay_record(room: &[u32], rest: &[u8]) -> Replayed {
@@ -46,10 +36,7 @@ fn replay_record(room: &[u32], rest: &[u8]) -> Replayed {
         1..=9 => lookups::replay_number(room, kind, rest),
         10 => lookups::replay_scan(room, rest),
         11..=13 => lists::replay_list(room, kind, rest),
-        _ => Replayed {
-            more: 65536,
-            same: false,
-        },
+        _ => tally::UNKNOWN,
     }
 }
 
@@ -58,13 +45,11 @@ fn replay(room: &[u32], sample: &[u8], from: usize, counts: &mut [usize]) -> usi
     let mut at = from;
     while at < sample.len() {
         let rest = &sample[at..];
-        let replayed = replay_record(room, rest);
-        let more = replayed.more;
-        if rest.len() <= more {
+        let bytes = tally::count(counts, rest, replay_record(room, rest));
+        if bytes == 0 {
             return at;
         }
-        tally::count(counts, read::byte(rest, 0), replayed.same);
-        at += 1 + more;
+        at += bytes;
     }
     at
 }
@@ -80,11 +65,29 @@ fn replay_table(sample: &[u8], counts: &mut [usize]) -> usize {
     }
 }
 
+// The name of each kind ends its line.
+fn print_kinds(counts: &[usize]) {
+    tally::print_kind(counts, 1, b"         mode_start\n");
+    tally::print_kind(counts, 2, b"        state_count\n");
+    tally::print_kind(counts, 3, b"             accept\n");
+    tally::print_kind(counts, 4, b"       ascii_target\n");
+    tally::print_kind(counts, 5, b"        char_target\n");
+    tally::print_kind(counts, 6, b"         eof_target\n");
+    tally::print_kind(counts, 7, b"  char_continuation\n");
+    tally::print_kind(counts, 8, b"   eof_continuation\n");
+    tally::print_kind(counts, 9, b"           coverage\n");
+    tally::print_kind(counts, 10, b"     scan_ascii_run\n");
+    tally::print_kind(counts, 11, b"compiled_mode_flags\n");
+    tally::print_kind(counts, 12, b"  mode_state_counts\n");
+    tally::print_kind(counts, 13, b"             encode\n");
+}
+
+// Two counts for each kind, from 0 on.
 fn report(sample: &[u8]) {
-    let mut counts = [0usize; PLACES];
+    let mut counts = [0usize; 28];
     let at = replay_table(sample, &mut counts);
     tally::print(at, b" of ", sample.len(), b" bytes\n");
-    tally::print_all(&counts, &ENDS);
+    print_kinds(&counts);
 }
 
 // Of an input that fills the buffer there may be more: it is no sample, and nothing is printed.

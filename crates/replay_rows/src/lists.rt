@@ -1,9 +1,9 @@
 // The records about a list of transitions. No number of a buffer is 0 before a call, so that one which is left alone changes the check.
 // No record is of a refusal.
-use crate::Replayed;
-use crate::check;
-use crate::read;
 use masks::Masks;
+use replay_io::check;
+use replay_io::read;
+use replay_io::tally::Replayed;
 use rows::Rows;
 use segments::Segments;
 use transitions::Transitions;
@@ -12,7 +12,7 @@ use transitions::Transitions;
 fn same(first: usize, second: usize, sums: u64, recorded: &[u8]) -> bool {
     (first == read::size(recorded, 0))
         & (second == read::size(recorded, 2))
-        & (sums == read::check(recorded, 4))
+        & (sums == read::long(recorded, 4))
 }
 
 fn same_intervals(list: &[u8], recorded: &[u8]) -> bool {
@@ -37,7 +37,14 @@ fn same_segments(list: &[u8], recorded: &[u8]) -> bool {
 
 fn same_masks(answer: Masks, out: &[u64], recorded: &[u8]) -> bool {
     match answer {
-        Masks::Count { masks, words } => { same(masks, words, check::of_masks(out), recorded) }
+        Masks::Count { masks, words } => {
+            same(
+                masks,
+                words,
+                check::of_masks(check::NONE, out).sums,
+                recorded,
+            )
+        }
         Masks::Refused(_) => false,
     }
 }
@@ -113,14 +120,12 @@ fn same_given(list: &[u8], given: &[u8], recorded: &[u8]) -> bool {
     let count = read::size(given, 0);
     let mut targets = [0u16; 64];
     let mut continuations = [0u32; 64];
-    read::halves(given, 2, &mut targets);
-    read::words(given, 2 + 2 * count, &mut continuations);
-    same_rows(
-        list,
-        read::first_halves(&targets, count),
-        read::first_words(&continuations, count),
-        recorded,
-    )
+    let t = read::put_halves(read::part(given, 2, 2 * count), &mut targets);
+    let c = read::put_words(
+        read::part(given, 2 + 2 * count, 4 * count),
+        &mut continuations,
+    );
+    same_rows(list, &targets[..t], &continuations[..c], recorded)
 }
 
 fn same_answer(kind: u8, list: &[u8], given: &[u8], recorded: &[u8]) -> bool {

@@ -13,24 +13,13 @@
 // A check is over the buffer that the call is named for, its numbers behind the answer too; that of build_rows over the ascii row, the wide row and
 // the escape row. It prints how many of the bytes it came through, then for each kind how many of our answers are equal and how many differ. A record
 // that cannot be read ends the replay, which the first line shows, so that a damaged sample cannot pass.
-mod check;
 mod interned;
 mod lists;
-mod read;
-mod tally;
 
 use libc::STDIN_FILENO;
-use tally::PLACES;
-
-// The end of each kind's line.
-const ENDS: [u8; 203] =
-    *b" differ:      read_intervals\n differ:       char_segments\n differ: segment_mask_matrix\n differ:      distinct_masks\n differ:          build_rows\n differ:        intern_ascii\n differ:         intern_wide\n";
-
-// What came of a record: how many bytes it has behind its first, and whether our answer is the recorded one.
-struct Replayed {
-    more: usize,
-    same: bool,
-}
+use replay_io::read;
+use replay_io::tally;
+use replay_io::tally::Replayed;
 
 // The record at the front of what is left. One of no kind is longer than any sample.
 fn replay_record(rest: &[u8]) -> Replayed {
@@ -39,10 +28,7 @@ fn replay_record(rest: &[u8]) -> Replayed {
         1..=5 => lists::replay_list(kind, rest),
         6 => interned::replay_ascii(rest),
         7 => interned::replay_wide(rest),
-        _ => Replayed {
-            more: 65536,
-            same: false,
-        },
+        _ => tally::UNKNOWN,
     }
 }
 
@@ -51,22 +37,32 @@ fn replay(sample: &[u8], counts: &mut [usize]) -> usize {
     let mut at = 0;
     while at < sample.len() {
         let rest = &sample[at..];
-        let replayed = replay_record(rest);
-        let more = replayed.more;
-        if rest.len() <= more {
+        let bytes = tally::count(counts, rest, replay_record(rest));
+        if bytes == 0 {
             return at;
         }
-        tally::count(counts, read::byte(rest, 0), replayed.same);
-        at += 1 + more;
+        at += bytes;
     }
     at
 }
 
+// The name of each kind ends its line.
+fn print_kinds(counts: &[usize]) {
+    tally::print_kind(counts, 1, b"     read_intervals\n");
+    tally::print_kind(counts, 2, b"      char_segments\n");
+    tally::print_kind(counts, 3, b"segment_mask_matrix\n");
+    tally::print_kind(counts, 4, b"     distinct_masks\n");
+    tally::print_kind(counts, 5, b"         build_rows\n");
+    tally::print_kind(counts, 6, b"       intern_ascii\n");
+    tally::print_kind(counts, 7, b"        intern_wide\n");
+}
+
+// Two counts for each kind, from 0 on.
 fn report(sample: &[u8]) {
-    let mut counts = [0usize; PLACES];
+    let mut counts = [0usize; 16];
     let at = replay(sample, &mut counts);
     tally::print(at, b" of ", sample.len(), b" bytes\n");
-    tally::print_all(&counts, &ENDS);
+    print_kinds(&counts);
 }
 
 // Of an input that fills the buffer there may be more: it is no sample, and nothing is printed.

@@ -1,0 +1,26 @@
+-- What is read from bytes. Assumes nothing.
+use Prim.Native.Nat.{ℕ, zero, suc, _+_, _*_, min}
+use mathlib.Core.Path.{_≡_}
+use mathlib.Core.List.{List, [], _∷_}
+use lib.ListN.{length, getD, take, drop}
+use denote.Ref.{RefT}
+
+-- the number of the first k bytes, the least first; past the end every byte is 0
+unfoldable pub number : ℕ → List ℕ → ℕ
+number zero s = 0
+number (suc k) s = getD s 0 0 + 256 * number k (drop 1 s)
+
+-- n numbers of k bytes, one behind the other
+unfoldable pub numbers : ℕ → ℕ → List ℕ → List ℕ
+numbers k zero s = []
+numbers k (suc n) s = number k s ∷ numbers k n (drop k s)
+
+-- what stands after the first n bytes: the bytes themselves, and no copy
+pub record After (s : RefT (List ℕ)) (n : ℕ) (r : RefT (List ℕ)) : Type 0 where
+  pub bytes : r .now ≡ drop n (s .now)
+  pub itself : r .ptr ≡ (s .ptr .0, min n (length (s .now)) + s .ptr .1)
+
+-- the n bytes from a place on, or all of them where there are fewer
+pub record Part (s : RefT (List ℕ)) (from n : ℕ) (r : RefT (List ℕ)) : Type 0 where
+  pub bytes : r .now ≡ take n (drop from (s .now))
+  pub itself : r .ptr ≡ (s .ptr .0, min from (length (s .now)) + s .ptr .1)
