@@ -41,9 +41,9 @@ use Rattle.row_laws.proofs.SameRows.{same-rows, wide-searchable, escape-searcha
 use Rattle.row_laws.proofs.Goals.{wide-given, escape-given}
 use Rattle.rows.specs.declared.Rows.{Rows}
 use Rattle.rows.specs.declared.Rows.the-variants.{Built, Refused}
-use Rattle.rows.specs.Answer.{said, Lent, lent, withRows, parseRows, counted, asciiIn, wideIn, escapeIn, Builds}
+use Rattle.rows.specs.Answer.{said, Lent, lent, tooShort, withRows, parseRows, counted, asciiIn, wideIn, escapeIn, Builds}
 use Rattle.rows.proofs.Joining.{length-numbers}
-use Rattle.rows.proofs.Building.{rows-asked}
+use Rattle.rows.proofs.Asking.{rows-asked}
 use Rattle.lexer_dfa.specs.Demand3.{Read, listOf, wordsOf, bitAt, RowArgs, RowsLeft, BuildAnswers, Asked, searchedFor, targetAt, contAt, Placed, RowsKept, RowsIn, SameLookups, SameAnswers, SameRows, MatrixAnswers, pointBit, MasksAsked, MasksKept, Flipped, DistinctAnswers, MasksAgree}
 use Rattle.lexer_dfa.proofs.Buffers.{padded-at, padded-front, padded-stands, searched-is, searched-front, length-distinct, bit-distinct, bit-holds}
 
@@ -145,17 +145,23 @@ unfolding parseDistinct
 distinct-parsed s n d w a b c g = rw (le-ltb d 8192 c) (masks-parsed s n w a b g)
 
 rows-parsed : (l : Lent) (targets conts : List ℕ) (ts : List Transition) → length targets ≡ length (distinctOf ts) → length conts ≡ length (distinctOf ts) →
-    128 ≤ l .ascii → 6144 ≤ l .wide → 6144 ≤ l .escape → withRows l targets conts (parsed ts) ≡ parsed ts
+    128 ≤ l .ascii → 6144 ≤ l .wide → 6144 ≤ l .escape → withRows (length targets) (length conts) (tooShort (l .ascii) (l .wide) (l .escape)) (parsed ts) ≡ parsed ts
 unfolding withRows
 rows-parsed l targets conts ts t c x y z =
-    rw (eq-eqb (length targets) (length (distinctOf ts)) t, eq-eqb (length conts) (length (distinctOf ts)) c, le-ltb (l .ascii) 128 x, le-ltb (l .wide) 6144 y, le-ltb (l .escape) 6144 z)
+    rw (
+      eq-eqb (length targets) (length (distinctOf ts)) t,
+      eq-eqb (length conts) (length (distinctOf ts)) c,
+      le-ltb (l .ascii) 128 x,
+      le-ltb (l .wide) 6144 y,
+      le-ltb (l .escape) 6144 z,
+    )
 
 abbrev lentBy : RowArgs → Lent
 lentBy a = lent (a .segments .now) (a .masks .now) (a .distinct .now) (a .ascii .now) (a .wide .now) (a .escape .now)
 
 asked-parsed : (a : RowArgs) → Asked a → parseRows (lentBy a) (a .list .now) (a .targets .now) (a .conts .now) ≡ parsed (listOf (a .list .now))
 asked-parsed a q =
-    ap (withRows (lentBy a) (a .targets .now) (a .conts .now))
+    ap (withRows (length (a .targets .now)) (length (a .conts .now)) (tooShort (length (a .ascii .now)) (length (a .wide .now)) (length (a .escape .now))))
     (distinct-parsed (length (a .segments .now)) (length (a .masks .now)) (length (a .distinct .now)) (a .list .now) (q .segments-room) (q .masks-room) (q .distinct-room) (q .accepted))
     ∙ rows-parsed (lentBy a) (a .targets .now) (a .conts .now) (listOf (a .list .now)) (q .a-target-each) (q .a-continuation-each) (q .ascii-room) (q .wide-room) (q .escape-room)
 
@@ -354,7 +360,7 @@ masks-agree list segments masks out n k d b a w e l y same =
     let f = given a (Built w e) l y in
     let built = built-parsed _ (f .built) in
     let ts = built .0 in
-    let asked = rows-asked (lentBy a) (a .targets .now) (a .conts .now) (parseDistinct (length (a .segments .now)) (length (a .masks .now)) (length (a .distinct .now)) (a .list .now)) (built .1) in
+    let asked = rows-asked (length (a .targets .now)) (length (a .conts .now)) (tooShort (length (a .ascii .now)) (length (a .wide .now)) (length (a .escape .now))) (parseDistinct (length (a .segments .now)) (length (a .masks .now)) (length (a .distinct .now)) (a .list .now)) (built .1) in
     let read = ap parse (sym same) ∙ accepted-list (length (a .segments .now)) (length (a .masks .now)) (length (a .distinct .now)) (a .list .now) ts (asked .0) in
     let laid = built-laid ts (subst (λ (x : Parsed). Builds (Built w e) (lentBy a) (f .segments) (f .masks) (l .distinct) (l .ascii) (l .wide) (l .escape) (a .targets .now) (a .conts .now) x) (built .1) (f .built)) in
     let tells = counted-parsed (length (out .now)) (parseDistinct (length (segments .now)) (length (masks .now)) (length (out .now)) bytes) (rw (b .3) at (b .2)) in

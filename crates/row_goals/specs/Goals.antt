@@ -9,9 +9,13 @@ use Rattle.refusal.specs.Said.{ROOM, TARGETS}
 use Rattle.refusal.specs.Lists.{pick}
 use Rattle.refusal.specs.Fixed.{NONE}
 
--- what a place was given: a target; or, for an escape row, a continuation, and none where the target is dead. Behind the last place nothing was given
+-- the target that a place was given; behind the last place nothing was given
+abbrev pub targetAt : List ℕ → ℕ → ℕ
+targetAt targets k = getD targets k 65535
+
+-- .. or, for an escape row, the continuation, and none where the target is dead
 abbrev pub goalOf : Bool → List ℕ → List ℕ → ℕ → ℕ
-goalOf e targets conts k = pick e (pick (eqb (getD targets k 65535) 65535) NONE (getD conts k NONE)) (getD targets k 65535)
+goalOf e targets conts k = pick e (pick (eqb (targetAt targets k) 65535) NONE (getD conts k NONE)) (targetAt targets k)
 
 -- "targets or continuations differ in number from distinct masks": d is how many distinct masks there are
 abbrev pub differs : ℕ → ℕ → ℕ → Bool

@@ -19,7 +19,7 @@ use Rattle.row_laws.proofs.Joins.{touch-or-not}
 use Rattle.row_laws.proofs.Sizes.{length-joinTo, length-part}
 use Rattle.row_goals.specs.Goals.{goalOf}
 use Rattle.row_edges.specs.Edges.{noGoal, firstOf}
-use Rattle.rows.specs.Aimed.{rangeOf, aimed, living, seen, seenWords, joined}
+use Rattle.rows.specs.Aimed.{rangeOf, aimed, living, seen, seenWords, joined, Spaced}
 use Rattle.rows.proofs.Living.{few-living}
 use Rattle.rows.proofs.Aiming.{length-aimed, aimed-turn, aimed-done, aimed-all}
 
@@ -56,7 +56,8 @@ module _ (t e : Bool) (low high goal n : ℕ) (d : List ℕ) where
     pub put-unseen : u ≡ true → Put (pick t [] (seenWords e low high goal)) n d n d
     put-unseen k = rw (i, sym j ∙ k) (put-none n d)
 
-    pub put-seen : {x r : ℕ} {new : List ℕ} → u ≡ false → x ≡ max low (firstOf e) → Put (x ∷ high ∷ goal ∷ []) n d r new → Put (pick t [] (seenWords e low high goal)) n d r new
+    pub put-seen : {x r : ℕ} {new : List ℕ} → u ≡ false → x ≡ max low (firstOf e) → Put (x ∷ high ∷ goal ∷ []) n d r new →
+        Put (pick t [] (seenWords e low high goal)) n d r new
     put-seen {x} {r} {new} k m p =
         rw (i, sym j ∙ k) (subst (λ (y : ℕ). Put (y ∷ high ∷ goal ∷ []) n d r new) m p)
 
@@ -78,7 +79,8 @@ length-numbers (r ∷ rs) = omega (arith, length-numbers rs)
 -- One range more: it is written, unless it grows
 
 seen-by : (d k : ℕ) (a : Range) (rs : Row) (b c : Bool) → eqb (a .goal) d ≡ b → ltb (a .high) k ≡ c →
-    numbers (partFrom k (living d (a ∷ rs))) ≡ pick (ltb (a .high) k || eqb (a .goal) d) [] (max (a .low) k ∷ a .high ∷ a .goal ∷ []) ++ numbers (partFrom k (living d rs))
+    numbers (partFrom k (living d (a ∷ rs))) ≡ pick (ltb (a .high) k || eqb (a .goal) d) [] (max (a .low) k ∷ a .high ∷ a .goal ∷ [])
+    ++ numbers (partFrom k (living d rs))
 unfolding living partFrom each
 seen-by d k a rs true true p q = rw (p, q)
 seen-by d k a rs true false p q = rw (p, q)
@@ -89,7 +91,8 @@ seen-first : (e : Bool) (a : Range) (rs : Row) → numbers (seen e (a ∷ rs)) �
 seen-first e a rs = seen-by (noGoal e) (firstOf e) a rs (eqb (a .goal) (noGoal e)) (ltb (a .high) (firstOf e)) refl refl
 
 seen-step : (e : Bool) (a r : Range) (rs : Row) → numbers (seen e (joinTo a (r ∷ rs))) ≡
-    pick (touches a r) [] (seenWords e (a .low) (a .high) (a .goal)) ++ numbers (seen e (joinTo (rangeOf (pick (touches a r) (a .low) (r .low)) (r .high) (r .goal)) rs))
+    pick (touches a r) [] (seenWords e (a .low) (a .high) (a .goal))
+    ++ numbers (seen e (joinTo (rangeOf (pick (touches a r) (a .low) (r .low)) (r .high) (r .goal)) rs))
 unfolding joinTo
 seen-step e a r rs =
     ⊎-elim
@@ -119,11 +122,12 @@ pub record Joining (e : Bool) (ts cs segs ps : List ℕ) (count : ℕ) (old : Li
   pub points : 2 * count ≤ length segs
   pub each-place : count ≤ length ps
   pub room : m + 3 * (count - k) + 3 ≤ length out
-  pub going : Going (numbers (joined e ts cs segs ps count)) 0 old (numbers (seen e (joinTo (rangeOf low high goal) (aimed e ts cs segs ps (count - k) k)))) m out
+  pub going : Going (numbers (joined e ts cs segs ps count)) 0 old
+      (numbers (seen e (joinTo (rangeOf low high goal) (aimed (goalOf e ts cs) segs ps (count - k) k)))) m out
 
 pub few-joined : (e : Bool) (ts cs segs ps : List ℕ) (count : ℕ) → length (numbers (joined e ts cs segs ps count)) ≤ 3 * count + 3
 few-joined e ts cs segs ps count =
-    let all : Row = aimed e ts cs segs ps count 0 in
+    let all : Row = aimed (goalOf e ts cs) segs ps count 0 in
     let row : Row = joinTo (rangeOf 0 0 (noGoal e)) all in
     omega (
       arith,
@@ -131,24 +135,24 @@ few-joined e ts cs segs ps count =
       length-part (firstOf e) (living (noGoal e) row),
       few-living (noGoal e) row,
       length-joinTo (rangeOf 0 0 (noGoal e)) all .1,
-      length-aimed e ts cs segs ps count 0,
+      length-aimed (goalOf e ts cs) segs ps count 0,
     )
 
 module _ (e : Bool) (ts cs segs ps : List ℕ) (count : ℕ) (old : List ℕ) where
-  pub join-start : {goal : ℕ} → (2 * count ≤ length segs) × (count ≤ length ps) → 3 * count + 3 ≤ length old → goal ≡ noGoal e →
+  pub join-start : {goal : ℕ} → Spaced segs ps count old → goal ≡ noGoal e →
       Joining e ts cs segs ps count old 0 0 goal 0 0 old
-  join-start {goal} w f g =
-      let same : numbers (joined e ts cs segs ps count) ≡ numbers (seen e (joinTo (rangeOf 0 0 goal) (aimed e ts cs segs ps (count - 0) 0))) =
-      ap₂ (λ (x : ℕ) (rs : Row). numbers (seen e (joinTo (rangeOf 0 0 x) rs))) (sym g) (aimed-all e ts cs segs ps count) in
+  join-start {goal} w g =
+      let same : numbers (joined e ts cs segs ps count) ≡ numbers (seen e (joinTo (rangeOf 0 0 goal) (aimed (goalOf e ts cs) segs ps (count - 0) 0))) =
+      ap₂ (λ (x : ℕ) (rs : Row). numbers (seen e (joinTo (rangeOf 0 0 x) rs))) (sym g) (aimed-all (goalOf e ts cs) segs ps count) in
       record {
-        points = w .0;
-        each-place = w .1;
-        room = omega arith;
+        points = w .points;
+        each-place = w .each;
+        room = omega (arith, w .room);
         going = subst (λ (l : List ℕ). Going (numbers (joined e ts cs segs ps count)) 0 old l 0 old) same
-            (going-start (numbers (joined e ts cs segs ps count)) 0 old (omega (arith, few-joined e ts cs segs ps count)));
+            (going-start (numbers (joined e ts cs segs ps count)) 0 old (omega (arith, w .room, few-joined e ts cs segs ps count)));
       }
 
-  module _ (low high goal k m : ℕ) (out : List ℕ) (h : Joining e ts cs segs ps count old low high goal k m out) where
+  module _ {low high goal k m : ℕ} {out : List ℕ} (h : Joining e ts cs segs ps count old low high goal k m out) where
     pub join-same : length out ≡ length old
     join-same = h .going .size
 
@@ -165,32 +169,36 @@ module _ (e : Bool) (ts cs segs ps : List ℕ) (count : ℕ) (old : List ℕ) wh
       pub join-high : 2 * k + 1 < length segs
       join-high = omega (arith, h .points)
 
-      pub join-turn : {value first r : ℕ} {t : Bool} {new : List ℕ} → value ≡ goalOf e ts cs (getD ps k 0) → t ≡ (eqb (suc high) (getD segs (2 * k) 0) && eqb goal value) →
+      pub join-turn : {value first r : ℕ} {t : Bool} {new : List ℕ} → value ≡ goalOf e ts cs (getD ps k 0) →
+          t ≡ (eqb (suc high) (getD segs (2 * k) 0) && eqb goal value) →
           Put (pick t [] (seenWords e low high goal)) m out r new → first ≡ pick t low (getD segs (2 * k) 0) →
           Joining e ts cs segs ps count old first (getD segs (2 * k + 1) 0) value (k + 1) r new
       join-turn {value} {first} {r} {t} {new} v i p f =
           let next : Range = rangeOf (getD segs (2 * k) 0) (getD segs (2 * k + 1) 0) value in
-          let rest : Row = aimed e ts cs segs ps (count - (k + 1)) (k + 1) in
-          let is : numbers (seen e (joinTo (rangeOf low high goal) (aimed e ts cs segs ps (count - k) k))) ≡
+          let rest : Row = aimed (goalOf e ts cs) segs ps (count - (k + 1)) (k + 1) in
+          let is : numbers (seen e (joinTo (rangeOf low high goal) (aimed (goalOf e ts cs) segs ps (count - k) k))) ≡
           pick t [] (seenWords e low high goal) ++ numbers (seen e (joinTo (rangeOf first (getD segs (2 * k + 1) 0) value) rest)) =
           ap (λ (rs : Row). numbers (seen e (joinTo (rangeOf low high goal) rs)))
-          (aimed-turn e ts cs segs ps count k n ∙ ap {B = Row} (λ (x : ℕ). rangeOf (getD segs (2 * k) 0) (getD segs (2 * k + 1) 0) x ∷ rest) (sym v))
+          (aimed-turn (goalOf e ts cs) segs ps count k n ∙ ap {B = Row} (λ (x : ℕ). rangeOf (getD segs (2 * k) 0) (getD segs (2 * k + 1) 0) x ∷ rest) (sym v))
           ∙ seen-step e (rangeOf low high goal) next rest
-          ∙ ap (λ (b : Bool). pick b [] (seenWords e low high goal) ++ numbers (seen e (joinTo (rangeOf (pick b low (getD segs (2 * k) 0)) (getD segs (2 * k + 1) 0) value) rest))) (sym i)
+          ∙ ap (λ (b : Bool). pick b [] (seenWords e low high goal)
+          ++ numbers (seen e (joinTo (rangeOf (pick b low (getD segs (2 * k) 0)) (getD segs (2 * k + 1) 0) value) rest))) (sym i)
           ∙ ap (λ (x : ℕ). pick t [] (seenWords e low high goal) ++ numbers (seen e (joinTo (rangeOf x (getD segs (2 * k + 1) 0) value) rest))) (sym f) in
           record {
             points = h .points;
             each-place = h .each-place;
             room = omega (arith, h .room, p .next, pick-three t (seenWords e low high goal) (few-words e low high goal), put-size p);
-            going = going-turn (numbers (joined e ts cs segs ps count)) 0 old (numbers (seen e (joinTo (rangeOf first (getD segs (2 * k + 1) 0) value) rest))) m out
+            going = going-turn (numbers (joined e ts cs segs ps count)) 0 old
+                (numbers (seen e (joinTo (rangeOf first (getD segs (2 * k + 1) 0) value) rest))) m out
                 (pick t [] (seenWords e low high goal)) p
                 (subst (λ (l : List ℕ). Going (numbers (joined e ts cs segs ps count)) 0 old l m out) is (h .going));
           }
 
     pub join-done : {r : ℕ} {new : List ℕ} → count ≤ k → Put (seenWords e low high goal) m out r new → Put (numbers (joined e ts cs segs ps count)) 0 old r new
     join-done n p =
-        let is : numbers (seen e (joinTo (rangeOf low high goal) (aimed e ts cs segs ps (count - k) k))) ≡ seenWords e low high goal ++ [] =
-        ap (λ (rs : Row). numbers (seen e (joinTo (rangeOf low high goal) rs))) (aimed-done e ts cs segs ps count k n) ∙ seen-last e (rangeOf low high goal) in
+        let is : numbers (seen e (joinTo (rangeOf low high goal) (aimed (goalOf e ts cs) segs ps (count - k) k))) ≡ seenWords e low high goal ++ [] =
+        ap (λ (rs : Row). numbers (seen e (joinTo (rangeOf low high goal) rs))) (aimed-done (goalOf e ts cs) segs ps count k n)
+        ∙ seen-last e (rangeOf low high goal) in
         going-done (numbers (joined e ts cs segs ps count)) 0 old
         (going-turn (numbers (joined e ts cs segs ps count)) 0 old [] m out (seenWords e low high goal) p
         (subst (λ (l : List ℕ). Going (numbers (joined e ts cs segs ps count)) 0 old l m out) is (h .going)))

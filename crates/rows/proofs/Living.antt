@@ -153,7 +153,8 @@ unfolding join
 join-one r rs = refl
 
 -- two ranges that touch are parted as the one that they grow to ..
-part-touch : (k : ℕ) (a r : Range) (rs : Row) → Touch a r → a .low ≤ a .high → r .low ≤ r .high → join (partFrom k (grown a r ∷ rs)) ≡ join (partFrom k (a ∷ r ∷ rs))
+part-touch : (k : ℕ) (a r : Range) (rs : Row) → Touch a r → a .low ≤ a .high → r .low ≤ r .high →
+    join (partFrom k (grown a r ∷ rs)) ≡ join (partFrom k (a ∷ r ∷ rs))
 part-touch k a r rs t l g =
     ⊎-elim
     (λ h.

@@ -1,7 +1,7 @@
 -- The laws of the loop that writes the ascii targets. Assumes nothing.
 use Prim.Native.Nat.{ℕ, zero, suc, _+_, _*_, _-_, _≤_, _<_, min}
 use mathlib.Core.Path.{_≡_, refl, sym, ap, ap₂, subst, _∙_}
-use mathlib.Core.Bool.{false}
+use mathlib.Core.Bool.{true, false}
 use mathlib.Core.List.{List, [], _∷_, _++_, append-nil, append-assoc}
 use native.Mathlib.Omega.{arith}
 use borrow.Author.Needs.{needs}
@@ -14,8 +14,9 @@ use Rattle.written.proofs.Going.{Going, going-start, going-done, going-turn, go
 use Rattle.row_laws.specs.Row.{Row, DEAD, Sorted, values, numbers, asciiPart}
 use Rattle.row_laws.proofs.Searches.{look-hit, look-gap, look-past, sorted-weaken}
 use Rattle.row_laws.proofs.Parts.{length-values}
+use Rattle.row_goals.specs.Goals.{targetAt}
 use Rattle.rows.specs.declared.Rows.the-variants.{Built}
-use Rattle.rows.specs.Aimed.{rangeOf, aimed, targetsOf, Split, Filled}
+use Rattle.rows.specs.Aimed.{rangeOf, aimed, joined, Stretch, targetsOf, Ordered, Split, Filled}
 use Rattle.rows.proofs.Aiming.{aimed-turn, aimed-done, aimed-all}
 
 -- One number, many times
@@ -34,39 +35,37 @@ module _ (n end x : ℕ) (old : List ℕ) where
     pub fill-place : m < end → Going (replicate (end - n) x) n old (replicate (end - m) x) m out → m < length out
     fill-place h g = going-place (replicate (end - n) x) n old (replicate (end - (m + 1)) x) m out x (rw (many-turn end m x h) at g)
 
-    pub fill-turn : m < end → Going (replicate (end - n) x) n old (replicate (end - m) x) m out → Going (replicate (end - n) x) n old (replicate (end - (m + 1)) x) (m + 1) (set out m x)
+    pub fill-turn : m < end → Going (replicate (end - n) x) n old (replicate (end - m) x) m out →
+        Going (replicate (end - n) x) n old (replicate (end - (m + 1)) x) (m + 1) (set out m x)
     fill-turn h g = going-put (replicate (end - n) x) n old (replicate (end - (m + 1)) x) m out x (rw (many-turn end m x h) at g)
 
-    pub fill-done : end ≤ m → Going (replicate (end - n) x) n old (replicate (end - m) x) m out → Put (replicate (end - n) x) n old m out
-    fill-done h g = going-done (replicate (end - n) x) n old (rw (many-none end m x h) at g)
+    pub fill-done : (n ≤ end) × (end ≤ length old) → end ≤ m → Going (replicate (end - n) x) n old (replicate (end - m) x) m out → Stretch x n end old m out
+    fill-done s h g =
+        let put : Put (replicate (end - n) x) n old m out = going-done (replicate (end - n) x) n old (rw (many-none end m x h) at g) in
+        record { put = put; behind = omega (arith, put .next, s .0, length-replicate (end - n) x) }
 
 pub ruleset filling = (needs, fill-start, fill-place, fill-turn, fill-done)
 
 -- Two of them, for one range
 
-module _ (n low high goal : ℕ) (d : List ℕ) where
-  module _ {e m f : ℕ} {new : List ℕ} (o : (n ≤ min low 128) × (low ≤ high)) (h : 128 ≤ length d) (p : e ≡ min low 128) (k : Put (replicate (e - n) DEAD) n d m new)
-      (q : f ≡ min (suc high) 128) where
-    pub second-order : m ≤ f
-    second-order = omega (arith, k .next, length-replicate (e - n) DEAD)
+pub two-fills : (n low high goal : ℕ) (d : List ℕ) {e m f r : ℕ} {new last : List ℕ} → (n ≤ min low 128) × (low ≤ high) → 128 ≤ length d →
+    e ≡ min low 128 → f ≡ min (suc high) 128 →
+    Stretch DEAD n e d m new → Stretch goal m f new r last → Put (targetsOf n low high goal) n d r last
+unfolding targetsOf
+two-fills n low high goal d {e} {m} {f} {r} {new} {last} o h p q k v =
+    let s : m ≡ min low 128 = k .behind ∙ p in
+    let a : List ℕ = replicate (min low 128 - n) DEAD in
+    let b : List ℕ = replicate (min (suc high) 128 - min low 128) goal in
+    let k′ : Put a n d m new = rw p at (k .put) in
+    let v′ : Put b m new r last =
+    subst (λ x. Put (replicate (min (suc high) 128 - x) goal) m new r last) s (subst (λ x. Put (replicate (x - m) goal) m new r last) q (v .put)) in
+    let fits : n + length (a ++ b) ≤ length d =
+    omega (arith, o .0, o .1, length-append a b, length-replicate (min low 128 - n) DEAD, length-replicate (min (suc high) 128 - min low 128) goal) in
+    let z : b ≡ b ++ [] = sym (append-nil b) in
+    let half : Going (a ++ b) n d b m new = going-turn (a ++ b) n d b n d a k′ (going-start (a ++ b) n d fits) in
+    going-done (a ++ b) n d (going-turn (a ++ b) n d [] m new b v′ (subst (λ x. Going (a ++ b) n d x m new) z half))
 
-    pub second-fits : f ≤ length new
-    second-fits = let l : length new ≡ length d = put-size k in omega arith
-
-    pub two-fills : {r : ℕ} {last : List ℕ} → Put (replicate (f - m) goal) m new r last → Put (targetsOf n low high goal) n d r last
-    unfolding targetsOf
-    two-fills {r} {last} v =
-        let s : m ≡ min low 128 = omega (arith, k .next, length-replicate (e - n) DEAD) in
-        let a : List ℕ = replicate (min low 128 - n) DEAD in
-        let b : List ℕ = replicate (min (suc high) 128 - min low 128) goal in
-        let k′ : Put a n d m new = rw p at k in
-        let v′ : Put b m new r last = subst (λ x. Put (replicate (min (suc high) 128 - x) goal) m new r last) s (subst (λ x. Put (replicate (x - m) goal) m new r last) q v) in
-        let fits : n + length (a ++ b) ≤ length d =
-        omega (arith, length-append a b, length-replicate (min low 128 - n) DEAD, length-replicate (min (suc high) 128 - min low 128) goal) in
-        let z : b ≡ b ++ [] = sym (append-nil b) in
-        going-done (a ++ b) n d (going-turn (a ++ b) n d [] m new b v′ (subst (λ x. Going (a ++ b) n d x m new) z (going-turn (a ++ b) n d b n d a k′ (going-start (a ++ b) n d fits))))
-
-pub ruleset ranging = (needs, second-order, second-fits, two-fills)
+pub ruleset ranging = (needs, two-fills)
 
 -- What a function gives at points one behind another
 
@@ -84,16 +83,19 @@ values-more f m (suc a) b =
 pub values-same : (f g : ℕ → ℕ) (m n : ℕ) → ((p : ℕ) → m ≤ p → p < m + n → f p ≡ g p) → values f m n ≡ values g m n
 unfolding values
 values-same f g m zero h = refl
-values-same f g m (suc n) h = ap₂ {C = List ℕ} (λ x l. x ∷ l) (h m (omega arith) (omega arith)) (values-same f g (suc m) n (λ p l k. h p (omega arith) (omega arith)))
+values-same f g m (suc n) h =
+    ap₂ {C = List ℕ} (λ x l. x ∷ l) (h m (omega arith) (omega arith)) (values-same f g (suc m) n (λ p l k. h p (omega arith) (omega arith)))
 
 values-one : (f : ℕ → ℕ) (x m n : ℕ) → ((p : ℕ) → m ≤ p → p < m + n → f p ≡ x) → values f m n ≡ replicate n x
 unfolding values
 values-one f x m zero h = refl
-values-one f x m (suc n) h = ap₂ {C = List ℕ} (λ y l. y ∷ l) (h m (omega arith) (omega arith)) (values-one f x (suc m) n (λ p l k. h p (omega arith) (omega arith)))
+values-one f x m (suc n) h =
+    ap₂ {C = List ℕ} (λ y l. y ∷ l) (h m (omega arith) (omega arith)) (values-one f x (suc m) n (λ p l k. h p (omega arith) (omega arith)))
 
 -- the ascii targets from m on, where the first range starts at m or later
 ascii-open : (r : Range) (rs : Row) (m : ℕ) → m ≤ 128 → Sorted m (r ∷ rs) →
-    values (goalAt DEAD (r ∷ rs)) m (128 - m) ≡ targetsOf m (r .low) (r .high) (r .goal) ++ values (goalAt DEAD rs) (min (suc (r .high)) 128) (128 - min (suc (r .high)) 128)
+    values (goalAt DEAD (r ∷ rs)) m (128 - m) ≡
+    targetsOf m (r .low) (r .high) (r .goal) ++ values (goalAt DEAD rs) (min (suc (r .high)) 128) (128 - min (suc (r .high)) 128)
 unfolding targetsOf
 ascii-open r rs m h s =
     let f : ℕ → ℕ = goalAt DEAD (r ∷ rs) in
@@ -130,27 +132,27 @@ pub record Filling (ts segs ps : List ℕ) (count : ℕ) (old : List ℕ) (k m :
   pub each-place : count ≤ length ps
   pub fits : 128 ≤ length out
   pub most : m ≤ 128
-  pub order : Sorted m (aimed false ts [] segs ps (count - k) k)
-  pub going : Going (asciiPart (aimed false ts [] segs ps count 0)) 0 old (values (goalAt DEAD (aimed false ts [] segs ps (count - k) k)) m (128 - m)) m out
+  pub order : Sorted m (aimed (targetAt ts) segs ps (count - k) k)
+  pub going : Going (asciiPart (aimed (targetAt ts) segs ps count 0)) 0 old (values (goalAt DEAD (aimed (targetAt ts) segs ps (count - k) k)) m (128 - m)) m out
 
 module _ (ts segs ps : List ℕ) (count : ℕ) (old : List ℕ) where
   abbrev all : List ℕ
-  all = asciiPart (aimed false ts [] segs ps count 0)
+  all = asciiPart (aimed (targetAt ts) segs ps count 0)
 
-  pub ascii-start : (2 * count ≤ length segs) × (count ≤ length ps) → 128 ≤ length old → Sorted 0 (aimed false ts [] segs ps count 0) → Filling ts segs ps count old 0 0 old
-  ascii-start w l o =
-      let same : aimed false ts [] segs ps count 0 ≡ aimed false ts [] segs ps (count - 0) 0 = aimed-all false ts [] segs ps count in
+  pub ascii-start : Ordered segs ps count old → Filling ts segs ps count old 0 0 old
+  ascii-start w =
+      let same : aimed (targetAt ts) segs ps count 0 ≡ aimed (targetAt ts) segs ps (count - 0) 0 = aimed-all (targetAt ts) segs ps count in
       record {
-        points = w .0;
-        each-place = w .1;
-        fits = l;
+        points = w .points;
+        each-place = w .each;
+        fits = w .room;
         most = omega arith;
-        order = subst (Sorted 0) same o;
+        order = subst (Sorted 0) same (w .order (targetAt ts));
         going = subst (λ (rs : Row). Going all 0 old (values (goalAt DEAD rs) 0 128) 0 old) same
-            (going-start all 0 old (omega (arith, length-values (goalAt DEAD (aimed false ts [] segs ps count 0)) 0 128)));
+            (going-start all 0 old (omega (arith, w .room, length-values (goalAt DEAD (aimed (targetAt ts) segs ps count 0)) 0 128)));
       }
 
-  module _ (k m : ℕ) (out : List ℕ) (h : Filling ts segs ps count old k m out) where
+  module _ {k m : ℕ} {out : List ℕ} (h : Filling ts segs ps count old k m out) where
     pub ascii-same : length out ≡ length old
     ascii-same = h .going .size
 
@@ -168,13 +170,13 @@ module _ (ts segs ps : List ℕ) (count : ℕ) (old : List ℕ) where
       high = getD segs (2 * k + 1) 0
 
       abbrev goal : ℕ
-      goal = getD ts (getD ps k 0) DEAD
+      goal = targetAt ts (getD ps k 0)
 
       abbrev rest : Row
-      rest = aimed false ts [] segs ps (count - (k + 1)) (k + 1)
+      rest = aimed (targetAt ts) segs ps (count - (k + 1)) (k + 1)
 
       opened : Sorted m (rangeOf low high goal ∷ rest)
-      opened = subst (Sorted m) (aimed-turn false ts [] segs ps count k n) (h .order)
+      opened = subst (Sorted m) (aimed-turn (targetAt ts) segs ps count k n) (h .order)
 
       pub ascii-place : k < length ps
       ascii-place = omega (arith, h .each-place)
@@ -191,13 +193,15 @@ module _ (ts segs ps : List ℕ) (count : ℕ) (old : List ℕ) where
       pub ascii-high : getD segs (2 * k) 0 ≤ getD segs (2 * k + 1) 0
       ascii-high = opened .1
 
-      pub ascii-turn : {x r : ℕ} {new : List ℕ} → x ≡ getD ts (getD ps k 0) 65535 → Put (targetsOf m (getD segs (2 * k) 0) (getD segs (2 * k + 1) 0) x) m out r new →
+      pub ascii-turn : {x r : ℕ} {new : List ℕ} → x ≡ targetAt ts (getD ps k 0) →
+          Put (targetsOf m (getD segs (2 * k) 0) (getD segs (2 * k + 1) 0) x) m out r new →
           Filling ts segs ps count old (k + 1) r new
       ascii-turn {x} {r} {new} i q =
           let p : Put (targetsOf m low high goal) m out r new = subst (λ (y : ℕ). Put (targetsOf m low high y) m out r new) i q in
           let e : r ≡ min (suc high) 128 = p .next ∙ length-targets m low high goal ascii-low ascii-high in
-          let is : values (goalAt DEAD (aimed false ts [] segs ps (count - k) k)) m (128 - m) ≡ targetsOf m low high goal ++ values (goalAt DEAD rest) r (128 - r) =
-          ap (λ (rs : Row). values (goalAt DEAD rs) m (128 - m)) (aimed-turn false ts [] segs ps count k n)
+          let is : values (goalAt DEAD (aimed (targetAt ts) segs ps (count - k) k)) m (128 - m) ≡
+          targetsOf m low high goal ++ values (goalAt DEAD rest) r (128 - r) =
+          ap (λ (rs : Row). values (goalAt DEAD rs) m (128 - m)) (aimed-turn (targetAt ts) segs ps count k n)
           ∙ ascii-open (rangeOf low high goal) rest m (h .most) opened
           ∙ ap (λ (y : ℕ). targetsOf m low high goal ++ values (goalAt DEAD rest) y (128 - y)) (sym e) in
           record {
@@ -210,22 +214,26 @@ module _ (ts segs ps : List ℕ) (count : ℕ) (old : List ℕ) where
                 (subst (λ (y : List ℕ). Going all 0 old y m out) is (h .going));
           }
 
-    pub ascii-done : {r : ℕ} {new : List ℕ} → count ≤ k → Put (replicate (128 - m) DEAD) m out r new → Put (asciiPart (aimed false ts [] segs ps count 0)) 0 old r new
+    pub ascii-done : {r : ℕ} {new : List ℕ} → count ≤ k → Stretch DEAD m 128 out r new → Put (asciiPart (aimed (targetAt ts) segs ps count 0)) 0 old r new
     unfolding goalAt
     ascii-done n p =
-        let is : values (goalAt DEAD (aimed false ts [] segs ps (count - k) k)) m (128 - m) ≡ replicate (128 - m) DEAD ++ [] =
-        ap (λ (rs : Row). values (goalAt DEAD rs) m (128 - m)) (aimed-done false ts [] segs ps count k n)
+        let is : values (goalAt DEAD (aimed (targetAt ts) segs ps (count - k) k)) m (128 - m) ≡ replicate (128 - m) DEAD ++ [] =
+        ap (λ (rs : Row). values (goalAt DEAD rs) m (128 - m)) (aimed-done (targetAt ts) segs ps count k n)
         ∙ values-one (goalAt DEAD []) DEAD m (128 - m) (λ p l h. refl)
         ∙ sym (append-nil (replicate (128 - m) DEAD)) in
-        going-done all 0 old (going-turn all 0 old [] m out (replicate (128 - m) DEAD) p (subst (λ (y : List ℕ). Going all 0 old y m out) is (h .going)))
+        going-done all 0 old (going-turn all 0 old [] m out (replicate (128 - m) DEAD) (p .put) (subst (λ (y : List ℕ). Going all 0 old y m out) is (h .going)))
 
-pub ruleset targeting = (needs, ascii-start, ascii-same, ascii-fits, ascii-most, ascii-place, ascii-first, ascii-second, ascii-low, ascii-high, ascii-turn, ascii-done)
+pub ruleset targeting =
+    (needs, ascii-start, ascii-same, ascii-fits, ascii-most, ascii-place, ascii-first, ascii-second, ascii-low, ascii-high, ascii-turn, ascii-done)
 
 -- The rows stand in their buffers
 
-pub rows-filled : (ts ws es : Row) {ascii ascii′ wide wide′ escape escape′ : List ℕ} {n m : ℕ} → Split ts ws ascii ascii′ wide n wide′ → Put (numbers es) 0 escape m escape′ →
-    Filled (Built n m) ts ws es ascii ascii′ wide wide′ escape escape′
-rows-filled ts ws es {n = n} {m = m} s p =
-    let a : n ≡ length (numbers ws) = omega (arith, s .broad .next) in
-    let b : m ≡ length (numbers es) = omega (arith, p .next) in
+pub rows-filled : (ts cs segs ps : List ℕ) (count : ℕ) {ascii ascii′ wide wide′ escape escape′ : List ℕ} {n m : ℕ} →
+    Split ts cs segs ps count ascii ascii′ wide n wide′ →
+    Put (numbers (joined true ts cs segs ps count)) 0 escape m escape′ → Filled (Built n m) ts cs segs ps count ascii ascii′ wide wide′ escape escape′
+rows-filled ts cs segs ps count {n = n} {m = m} s p =
+    let a : n ≡ length (numbers (joined false ts cs segs ps count)) = omega (arith, s .broad .next) in
+    let b : m ≡ length (numbers (joined true ts cs segs ps count)) = omega (arith, p .next) in
     record { says = ap₂ {C = Said} (λ x y. ok (x ∷ y ∷ [])) a b; narrow = s .narrow; broad = s .broad .is; escapes = p .is }
+
+pub ruleset standing = (needs, rows-filled)

@@ -2,11 +2,11 @@
 -- `targets` and `conts` are what the caller gave each of its distinct masks. Assumes nothing.
 use Prim.Native.Nat.{ℕ}
 use mathlib.Core.Path.{_≡_}
-use mathlib.Core.Bool.{Bool, _&&_, _||_}
+use mathlib.Core.Bool.{Bool, _||_}
 use mathlib.Core.List.{List, [], _∷_}
 use lib.ListN.{length}
 use lib.Dec.{ltb, eqb}
-use Rattle.refusal.specs.Said.{Said, ok, no, ROOM, TARGETS}
+use Rattle.refusal.specs.Said.{Said, ok, no}
 use Rattle.refusal.specs.Lists.{pick}
 use Rattle.written.specs.Over.{zeros, padded}
 use Rattle.transitions.specs.Transition.{Transition}
@@ -16,6 +16,7 @@ use Rattle.masks.specs.Masks.{matrix, distinctOf}
 use Rattle.masks.specs.Answer.{parseDistinct, masksIn}
 use Rattle.row_laws.specs.Row.{Row, numbers}
 use Rattle.row_laws.specs.Build.{asciiOf, wideOf, escapeOf}
+use Rattle.row_goals.specs.Goals.{differs, refusalOf}
 use Rattle.rows.specs.declared.Rows.{Rows}
 use Rattle.rows.specs.declared.Rows.the-variants.{Built, Refused}
 
@@ -37,23 +38,23 @@ abbrev pub lent : List ℕ → List ℕ → List ℕ → List ℕ → List ℕ �
 lent segments masks distinct ascii wide escape =
     record { segments = length segments; masks = length masks; distinct = length distinct; ascii = length ascii; wide = length wide; escape = length escape }
 
--- "targets or continuations differ in number from distinct masks" is where this fails
-abbrev pub asMany : List Transition → List ℕ → List ℕ → Bool
-asMany ts targets conts = eqb (length targets) (length (distinctOf ts)) && eqb (length conts) (length (distinctOf ts))
+-- "128 ascii targets, 3 numbers per possible range (6,144 each for wide and escape)": how many numbers the buffers for rows have
+abbrev pub tooShort : ℕ → ℕ → ℕ → Bool
+tooShort ascii wide escape = ltb ascii 128 || ltb wide 6144 || ltb escape 6144
 
--- "128 ascii targets, 3 numbers per possible range (6,144 each for wide and escape)"
-abbrev pub tooShort : Lent → Bool
-tooShort l = ltb (l .ascii) 128 || ltb (l .wide) 6144 || ltb (l .escape) 6144
+-- a list that a number refuses, or 0
+abbrev pub refusedBy : ℕ → Parsed → Parsed
+refusedBy n x = pick (eqb n 0) x (refused n 0)
 
--- behind the records: TARGETS, ROOM for the rows
-unfoldable pub withRows : Lent → List ℕ → List ℕ → Parsed → Parsed
-withRows l targets conts (parsed ts) =
-    pick (asMany ts targets conts) (pick (tooShort l) (refused ROOM 0) (parsed ts)) (refused TARGETS 0)
-withRows l targets conts (refused k p) = refused k p
+-- behind the records: TARGETS for so many targets and continuations, ROOM for the rows
+unfoldable pub withRows : ℕ → ℕ → Bool → Parsed → Parsed
+withRows t c short (parsed ts) = refusedBy (refusalOf (differs (length (distinctOf ts)) t c) short) (parsed ts)
+withRows t c short (refused k p) = refused k p
 
 -- "A row call: ROOM for the buffers above, the records, TARGETS, ROOM for these."
 abbrev pub parseRows : Lent → List ℕ → List ℕ → List ℕ → Parsed
-parseRows l w targets conts = withRows l targets conts (parseDistinct (l .segments) (l .masks) (l .distinct) w)
+parseRows l w targets conts =
+    withRows (length targets) (length conts) (tooShort (l .ascii) (l .wide) (l .escape)) (parseDistinct (l .segments) (l .masks) (l .distinct) w)
 
 -- the numbers of both rows, or the refusal
 unfoldable pub counted : List ℕ → List ℕ → Parsed → Said

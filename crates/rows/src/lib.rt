@@ -1,17 +1,19 @@
 // Row building: each segment whose mask was given a target is a range, three numbers, of a row; the row is joined where ranges of one goal touch, and
 // parted at 128 into an ascii row and a wide row; continuations go to an escape row.
 ghost use mathlib.Core.Path.{_≡_};
-ghost use mathlib.Core.Bool.{true, false, _||_};
+ghost use mathlib.Core.Bool.{true, false};
 ghost use mathlib.Core.List.{[], _∷_};
-ghost use Prim.Native.Nat.{suc, min, _+_, _*_, _-_, _≤_};
-ghost use lib.Dec.{ltb};
-ghost use lib.ListN.{length, replicate};
+ghost use Prim.Native.Nat.{suc, min, _+_, _≤_};
+ghost use lib.ListN.{length};
 ghost use Rattle.refusal.specs.Lists.{pick};
 ghost use Rattle.written.specs.Over.{Put, zeros};
-ghost use Rattle.row_laws.specs.Row.{Sorted, numbers, asciiPart};
+ghost use Rattle.mask_places.specs.Answer.{parsePlaces};
+ghost use Rattle.row_laws.specs.Row.{numbers, asciiPart};
+ghost use Rattle.row_goals.specs.Goals.{targetAt};
 ghost use Rattle.row_edges.specs.Edges.{noGoal};
-ghost use Rattle.rows.specs.Answer.{lent, parseRows, Builds};
-ghost use Rattle.rows.specs.Aimed.{aimed, seenWords, joined, targetsOf, Split, Filled};
+ghost use Rattle.rows.specs.Answer.{lent, tooShort, parseRows, Builds};
+ghost use Rattle.rows.specs.Aimed.{aimed, seenWords, joined, Stretch, targetsOf, Spaced, Ordered, Ready, Split, Filled};
+ghost use Rattle.rows.specs.Asked.{Zeroed, Cleared, Asked, Prepared};
 use mask_places::Places;
 use refusal::DEAD_STATE;
 use refusal::NONE;
@@ -84,7 +86,7 @@ fn edge_behind(x: u32) -> usize
 // Writes one target from n to before `end`.
 fn fill(out: &mut [u16], n: usize, end: usize, x: u16) -> usize
     requires { ⌜ (n ≤ end) × (end ≤ length (now out)) ⌝ }
-    ensures { λ r. ⌜ Put (replicate (end - n) x) n (now (out .entry)) r (now (out .exit)) ⌝ }
+    ensures { λ r. ⌜ Stretch x n end (now (out .entry)) r (now (out .exit)) ⌝ }
 {
     let mut m = n;
     while m < end {
@@ -121,10 +123,9 @@ fn put_ascii(
     targets: &[u16],
     out: &mut [u16],
 ) -> usize
-    requires within { ⌜ (2 * count ≤ length (now segments)) × (count ≤ length (now places)) ⌝ }
-    requires fits { ⌜ 128 ≤ length (now out) ⌝ }
-    requires order { ⌜ Sorted 0 (aimed false (now targets) [] (now segments) (now places) count 0) ⌝ }
-    ensures { λ r. ⌜ Put (asciiPart (aimed false (now (targets .entry)) [] (now (segments .entry)) (now (places .entry)) count 0)) 0 (now (out .entry)) r (now (out .exit)) ⌝ }
+    requires { ⌜ Ordered (now segments) (now places) count (now out) ⌝ }
+    ensures { λ r. ⌜ Put (asciiPart (aimed (targetAt (now (targets .entry))) (now (segments .entry)) (now (places .entry)) count 0)) 0
+        (now (out .entry)) r (now (out .exit)) ⌝ }
 {
     let mut k: usize = 0;
     let mut m: usize = 0;
@@ -153,9 +154,10 @@ fn put_joined(
     escape: bool,
     out: &mut [u32],
 ) -> usize
-    requires within { ⌜ (2 * count ≤ length (now segments)) × (count ≤ length (now places)) ⌝ }
-    requires fits { ⌜ 3 * count + 3 ≤ length (now out) ⌝ }
-    ensures { λ r. ⌜ Put (numbers (joined escape (now (targets .entry)) (now (continuations .entry)) (now (segments .entry)) (now (places .entry)) count)) 0 (now (out .entry)) r (now (out .exit)) ⌝ }
+    requires { ⌜ Spaced (now segments) (now places) count (now out) ⌝ }
+    ensures { λ r. ⌜ Put
+        (numbers (joined escape (now (targets .entry)) (now (continuations .entry)) (now (segments .entry)) (now (places .entry)) count)) 0
+        (now (out .entry)) r (now (out .exit)) ⌝ }
 {
     let mut low: u32 = 0;
     let mut high: u32 = 0;
@@ -186,10 +188,10 @@ fn split_rows(
     ascii: &mut [u16],
     wide: &mut [u32],
 ) -> usize
-    requires within { ⌜ (2 * count ≤ length (now segments)) × (count ≤ length (now places)) ⌝ }
-    requires fits { ⌜ (128 ≤ length (now ascii)) × (3 * count + 3 ≤ length (now wide)) ⌝ }
-    requires order { ⌜ Sorted 0 (aimed false (now targets) [] (now segments) (now places) count 0) ⌝ }
-    ensures { λ r. ⌜ Split (aimed false (now (targets .entry)) [] (now (segments .entry)) (now (places .entry)) count 0) (joined false (now (targets .entry)) (now (continuations .entry)) (now (segments .entry)) (now (places .entry)) count) (now (ascii .entry)) (now (ascii .exit)) (now (wide .entry)) r (now (wide .exit)) ⌝ }
+    requires narrow { ⌜ Ordered (now segments) (now places) count (now ascii) ⌝ }
+    requires broad { ⌜ Spaced (now segments) (now places) count (now wide) ⌝ }
+    ensures { λ r. ⌜ Split (now (targets .entry)) (now (continuations .entry)) (now (segments .entry)) (now (places .entry)) count
+        (now (ascii .entry)) (now (ascii .exit)) (now (wide .entry)) r (now (wide .exit)) ⌝ }
 {
     put_ascii(segments, places, count, targets, ascii);
     put_joined(segments, places, count, targets, continuations, false, wide)
@@ -204,9 +206,10 @@ fn merge_escape_ranges(
     continuations: &[u32],
     escape: &mut [u32],
 ) -> usize
-    requires within { ⌜ (2 * count ≤ length (now segments)) × (count ≤ length (now places)) ⌝ }
-    requires fits { ⌜ 3 * count + 3 ≤ length (now escape) ⌝ }
-    ensures { λ r. ⌜ Put (numbers (joined true (now (targets .entry)) (now (continuations .entry)) (now (segments .entry)) (now (places .entry)) count)) 0 (now (escape .entry)) r (now (escape .exit)) ⌝ }
+    requires { ⌜ Spaced (now segments) (now places) count (now escape) ⌝ }
+    ensures { λ r. ⌜ Put
+        (numbers (joined true (now (targets .entry)) (now (continuations .entry)) (now (segments .entry)) (now (places .entry)) count)) 0
+        (now (escape .entry)) r (now (escape .exit)) ⌝ }
 {
     put_joined(
         segments,
@@ -235,11 +238,9 @@ fn fill_rows(
     wide: &mut [u32],
     escape: &mut [u32],
 ) -> Rows
-    requires within { ⌜ (2 * count ≤ length (now segments)) × (count ≤ length (now places)) ⌝ }
-    requires few { ⌜ count ≤ 2047 ⌝ }
-    requires room { ⌜ (128 ≤ length (now ascii)) × (6144 ≤ length (now wide)) × (6144 ≤ length (now escape)) ⌝ }
-    requires order { ⌜ Sorted 0 (aimed false (now targets) [] (now segments) (now places) count 0) ⌝ }
-    ensures { λ r. ⌜ Filled r (aimed false (now (targets .entry)) [] (now (segments .entry)) (now (places .entry)) count 0) (joined false (now (targets .entry)) (now (continuations .entry)) (now (segments .entry)) (now (places .entry)) count) (joined true (now (targets .entry)) (now (continuations .entry)) (now (segments .entry)) (now (places .entry)) count) (now (ascii .entry)) (now (ascii .exit)) (now (wide .entry)) (now (wide .exit)) (now (escape .entry)) (now (escape .exit)) ⌝ }
+    requires { ⌜ Ready (now segments) (now places) count (now ascii) (now wide) (now escape) ⌝ }
+    ensures { λ r. ⌜ Filled r (now (targets .entry)) (now (continuations .entry)) (now (segments .entry)) (now (places .entry)) count
+        (now (ascii .entry)) (now (ascii .exit)) (now (wide .entry)) (now (wide .exit)) (now (escape .entry)) (now (escape .exit)) ⌝ }
 {
     let n = split_rows(segments, places, count, targets, continuations, ascii, wide);
     let m = merge_escape_ranges(segments, places, count, targets, continuations, escape);
@@ -247,7 +248,7 @@ fn fill_rows(
 }
 
 fn too_short(ascii: usize, wide: usize, escape: usize) -> bool
-    ensures { λ r. ⌜ r ≡ (ltb ascii 128 || ltb wide 6144 || ltb escape 6144) ⌝ }
+    ensures { λ r. ⌜ r ≡ tooShort ascii wide escape ⌝ }
 {
     if ascii < 128 {
         return true;
@@ -270,7 +271,7 @@ fn clear_targets(targets: &mut [u16])
 
 // Clears the buffers for rows, and answers whether one of them is too short.
 fn clear_rows(ascii: &mut [u16], wide: &mut [u32], escape: &mut [u32]) -> bool
-    ensures { λ r. ⌜ (r ≡ (ltb (length (now (ascii .entry))) 128 || ltb (length (now (wide .entry))) 6144 || ltb (length (now (escape .entry))) 6144)) × (now (ascii .exit) ≡ zeros (length (now (ascii .entry)))) × (now (wide .exit) ≡ zeros (length (now (wide .entry)))) × (now (escape .exit) ≡ zeros (length (now (escape .entry)))) ⌝ }
+    ensures { λ r. ⌜ Cleared r (now (ascii .entry)) (now (ascii .exit)) (now (wide .entry)) (now (wide .exit)) (now (escape .entry)) (now (escape .exit)) ⌝ }
 {
     let short = too_short(ascii.len(), wide.len(), escape.len());
     clear_targets(ascii);
@@ -280,11 +281,81 @@ fn clear_rows(ascii: &mut [u16], wide: &mut [u32], escape: &mut [u32]) -> bool
 }
 
 fn clear_masks(segments: &mut [u32], masks: &mut [u64], distinct: &mut [u64])
-    ensures { λ _. ⌜ (now (segments .exit) ≡ zeros (length (now (segments .entry)))) × (now (masks .exit) ≡ zeros (length (now (masks .entry)))) × (now (distinct .exit) ≡ zeros (length (now (distinct .entry)))) ⌝ }
+    ensures { λ _. ⌜ Zeroed (now (segments .entry)) (now (segments .exit)) (now (masks .entry)) (now (masks .exit))
+        (now (distinct .entry)) (now (distinct .exit)) ⌝ }
 {
     written::clear(segments);
     written_words::clear_words(masks);
     written_words::clear_words(distinct);
+}
+
+// The segments of a list, their masks, the distinct ones and the places of these, unless so many targets and continuations are not for it, or a buffer for rows
+// is too short.
+fn place_for_rows(
+    list: &[u8],
+    targets: usize,
+    continuations: usize,
+    short: bool,
+    segments: &mut [u32],
+    masks: &mut [u64],
+    distinct: &mut [u64],
+    places: &mut [u32],
+) -> Places
+    ensures { λ r. ⌜ Asked targets continuations short r (length (now (segments .entry))) (now (segments .exit))
+        (length (now (masks .entry))) (now (masks .exit)) (length (now (distinct .entry))) (now (distinct .exit))
+        (length (now (places .entry))) (now (places .exit))
+        (parsePlaces (length (now (segments .entry))) (length (now (masks .entry))) (length (now (distinct .entry)))
+        (length (now (places .entry))) (now (list .entry))) ⌝ }
+{
+    match mask_places::place_masks(list, segments, masks, distinct, places) {
+        Places::Found {
+            segments: count,
+            masks: d,
+            words,
+        } => {
+            let number = row_goals::refusal_for(d, targets, continuations, short);
+            if number != 0 {
+                clear_masks(segments, masks, distinct);
+                return Places::Refused(Refusal { number, place: 0 });
+            }
+            Places::Found {
+                segments: count,
+                masks: d,
+                words,
+            }
+        }
+        Places::Refused(r) => Places::Refused(r),
+    }
+}
+
+fn prepare_rows(
+    list: &[u8],
+    targets: usize,
+    continuations: usize,
+    segments: &mut [u32],
+    masks: &mut [u64],
+    distinct: &mut [u64],
+    places: &mut [u32],
+    ascii: &mut [u16],
+    wide: &mut [u32],
+    escape: &mut [u32],
+) -> Places
+    ensures { λ r. ⌜ Prepared (now (list .entry)) targets continuations r (now (segments .entry)) (now (segments .exit))
+        (now (masks .entry)) (now (masks .exit)) (now (distinct .entry)) (now (distinct .exit)) (length (now (places .entry)))
+        (now (places .exit)) (now (ascii .entry)) (now (ascii .exit)) (now (wide .entry)) (now (wide .exit)) (now (escape .entry))
+        (now (escape .exit)) ⌝ }
+{
+    let short = clear_rows(ascii, wide, escape);
+    place_for_rows(
+        list,
+        targets,
+        continuations,
+        short,
+        segments,
+        masks,
+        distinct,
+        places,
+    )
 }
 
 // The rows of a list of transitions, each distinct mask of which was given a target and a continuation: 128 ascii targets, the wide row and the escape row,
@@ -301,32 +372,40 @@ pub fn build_rows(
     wide: &mut [u32],
     escape: &mut [u32],
 ) -> Rows
-    ensures { λ r. ⌜ Builds r (lent (now (segments .entry)) (now (masks .entry)) (now (distinct .entry)) (now (ascii .entry)) (now (wide .entry)) (now (escape .entry))) (now (segments .exit)) (now (masks .exit)) (now (distinct .exit)) (now (ascii .exit)) (now (wide .exit)) (now (escape .exit)) (now (targets .entry)) (now (continuations .entry)) (parseRows (lent (now (segments .entry)) (now (masks .entry)) (now (distinct .entry)) (now (ascii .entry)) (now (wide .entry)) (now (escape .entry))) (now (list .entry)) (now (targets .entry)) (now (continuations .entry))) ⌝ }
+    ensures { λ r. ⌜ Builds r
+        (lent (now (segments .entry)) (now (masks .entry)) (now (distinct .entry)) (now (ascii .entry)) (now (wide .entry)) (now (escape .entry)))
+        (now (segments .exit)) (now (masks .exit)) (now (distinct .exit)) (now (ascii .exit)) (now (wide .exit)) (now (escape .exit))
+        (now (targets .entry)) (now (continuations .entry))
+        (parseRows (lent (now (segments .entry)) (now (masks .entry)) (now (distinct .entry)) (now (ascii .entry)) (now (wide .entry)) (now (escape .entry)))
+        (now (list .entry)) (now (targets .entry)) (now (continuations .entry))) ⌝ }
 {
-    let short = clear_rows(ascii, wide, escape);
     let mut places = [0u32; 2048];
-    match mask_places::place_masks(list, segments, masks, distinct, &mut places) {
+    match prepare_rows(
+        list,
+        targets.len(),
+        continuations.len(),
+        segments,
+        masks,
+        distinct,
+        &mut places,
+        ascii,
+        wide,
+        escape,
+    ) {
         Places::Found {
             segments: count,
-            masks: d,
-            words,
-        } => {
-            let number = row_goals::refusal_for(d, targets.len(), continuations.len(), short);
-            if number != 0 {
-                clear_masks(segments, masks, distinct);
-                return Rows::Refused(Refusal { number, place: 0 });
-            }
-            fill_rows(
-                segments,
-                &places,
-                count,
-                targets,
-                continuations,
-                ascii,
-                wide,
-                escape,
-            )
-        }
+            masks: _,
+            words: _,
+        } => fill_rows(
+            segments,
+            &places,
+            count,
+            targets,
+            continuations,
+            ascii,
+            wide,
+            escape,
+        ),
         Places::Refused(r) => Rows::Refused(r),
     }
 }

@@ -47,7 +47,12 @@ pub extern "C" fn lexer_dfa_build_rows(
     wide: &mut [u32],
     escape: &mut [u32],
 ) -> CRows
-    ensures { λ r. ⌜ BuildsInC r (lent (now (segments .entry)) (now (masks .entry)) (now (distinct .entry)) (now (ascii .entry)) (now (wide .entry)) (now (escape .entry))) (now (segments .exit)) (now (masks .exit)) (now (distinct .exit)) (now (ascii .exit)) (now (wide .exit)) (now (escape .exit)) (now (targets .entry)) (now (continuations .entry)) (parseRows (lent (now (segments .entry)) (now (masks .entry)) (now (distinct .entry)) (now (ascii .entry)) (now (wide .entry)) (now (escape .entry))) (now (list .entry)) (now (targets .entry)) (now (continuations .entry))) ⌝ }
+    ensures { λ r. ⌜ BuildsInC r
+        (lent (now (segments .entry)) (now (masks .entry)) (now (distinct .entry)) (now (ascii .entry)) (now (wide .entry)) (now (escape .entry)))
+        (now (segments .exit)) (now (masks .exit)) (now (distinct .exit)) (now (ascii .exit)) (now (wide .exit)) (now (escape .exit))
+        (now (targets .entry)) (now (continuations .entry))
+        (parseRows (lent (now (segments .entry)) (now (masks .entry)) (now (distinct .entry)) (now (ascii .entry)) (now (wide .entry)) (now (escape .entry)))
+        (now (list .entry)) (now (targets .entry)) (now (continuations .entry))) ⌝ }
 {
     rows_in_c(rows::build_rows(
         list,

@@ -1,6 +1,6 @@
 -- By the law of every loop that writes: the targets of the segments that are left, from m on, give what all of them give.
 use Prim.Native.Nat.{_-_}
-use Rattle.rows.proofs.Parting.{Filling, targeting, ascii-turn}
+use Rattle.rows.proofs.Parting.{Filling, targeting}
 use Rattle.rows.proofs.put_ascii.Statement.{statement}
 use Rattle.rows.proofs.put_ascii.Tie as tie
 
@@ -29,9 +29,7 @@ put-ascii-spec =
     (λ c κs. search targeting)
     (λ c. search targeting)
     (λ c. search targeting)
-    (λ c.
-    let l = c .before .before .before .before .before .before .before .before .before .loop in
-    ascii-turn _ _ _ _ _ (l .k) (l .m) (l .out) (l .inv) (c .before .before .before .before .before .before .before .before .loop-test .taken) (c .before .before .before .target-at .ensures) (c .before .before .put-targets .ensures))
+    (λ c. search (targeting, c .before .before .put-targets .ensures))
     (λ c κs. search targeting)
     (λ c. search targeting)
     (λ c. search targeting))

@@ -1,5 +1,5 @@
 -- Dead targets to the range, then its own.
-use Rattle.rows.proofs.Parting.{ranging, second-order, second-fits}
+use Rattle.rows.proofs.Parting.{ranging}
 use Rattle.rows.proofs.put_targets.Statement.{statement}
 use Rattle.rows.proofs.put_targets.Tie as tie
 
@@ -10,10 +10,6 @@ put-targets-spec =
     (λ c κs. search ranging)
     (λ c κs. search ranging)
     (λ c κs. search ranging)
-    (λ c κs.
-    let s = c .before .before .before .before .before .before .before .before in
-    let e = c .before .before .before .before .before .edge in
-    let g = c .before .before .before .before .fill in
-    (second-order _ _ _ 0 _ (s .pre .0) (s .pre .1) (e .ensures) (g .ensures) (c .edge-behind .ensures), second-fits _ _ _ 0 _ (s .pre .0) (s .pre .1) (e .ensures) (g .ensures) (c .edge-behind .ensures)))
+    (λ c κs. search ranging)
     (λ c. search ranging)
     (λ c. search ranging))

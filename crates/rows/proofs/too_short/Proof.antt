@@ -1,5 +1,5 @@
 -- By the tests on the way.
-use Rattle.rows.proofs.Building.{shortening}
+use Rattle.rows.proofs.Asking.{shortening}
 use Rattle.rows.proofs.too_short.Statement.{statement}
 use Rattle.rows.proofs.too_short.Tie as tie
 
