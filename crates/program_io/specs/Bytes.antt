@@ -1,8 +1,8 @@
 -- What a program reads: document 01, "The program `tableread` reads little-endian words from standard input", and `tableshow` likewise. n is how many
 -- numbers the lent room has. Assumes nothing.
-use Prim.Native.Nat.{ℕ, _+_, _*_, _%_}
-use mathlib.Core.List.{List, [], _∷_}
-use lib.ListN.{length, getD}
+use Prim.Native.Nat.{ℕ, _/_, _%_}
+use mathlib.Core.List.{List}
+use lib.ListN.{length}
 use lib.Dec.{ltb}
 use Rattle.refusal.specs.Said.{SHORT, LIMIT}
 use Rattle.refusal.specs.Lists.{pick}
@@ -10,22 +10,11 @@ use Rattle.codec.specs.declared.Decoded.{Decoded}
 use Rattle.codec.specs.declared.Decoded.the-variants.{Refused}
 use Rattle.codec.specs.Decode.{decodeOf, roomOf}
 use Rattle.written.specs.Over.{zeros}
+use Rattle.replay_io.specs.Bytes.{numbers}
 
--- the word of four bytes, the least first
-abbrev pub wordOf : ℕ → ℕ → ℕ → ℕ → ℕ
-wordOf a b c d = a + 256 * b + 65536 * c + 16777216 * d
-
--- of the four from a place on
-abbrev pub wordAt : List ℕ → ℕ → ℕ
-wordAt bs at = wordOf (getD bs at 0) (getD bs (at + 1) 0) (getD bs (at + 2) 0) (getD bs (at + 3) 0)
-
--- the whole words of bytes
+-- the whole words of bytes, the least byte first
 unfoldable pub wordsOf : List ℕ → List ℕ
-wordsOf [] = []
-wordsOf (a ∷ []) = []
-wordsOf (a ∷ b ∷ []) = []
-wordsOf (a ∷ b ∷ c ∷ []) = []
-wordsOf (a ∷ b ∷ c ∷ d ∷ bs) = wordOf a b c d ∷ wordsOf bs
+wordsOf bs = numbers 4 (length bs / 4) bs
 
 abbrev pub refused : ℕ → ℕ → Decoded
 refused n p = Refused (record { number = n; place = p })

@@ -1,8 +1,8 @@
 -- The law of a loop over the numbers of a buffer: the sums so far, and those that are left, give what all of them give. Assumes nothing.
 use Prim.Native.Nat.{ℕ, _+_, _%_, _^_, _<_, _≤_}
 use native.Mathlib.Numerals.{add-one}
-use mathlib.Core.Path.{_≡_, refl, _∙_}
-use mathlib.Core.List.{List, [], _∷_}
+use mathlib.Core.Path.{_≡_}
+use mathlib.Core.List.{List}
 use borrow.Author.Needs.{needs}
 use lib.ListN.{length, getD, drop, drop-of-length-le}
 use lib.Seq.{drop-cons}
@@ -16,7 +16,8 @@ module _ (out : List ℕ) (i : ℕ) {all : Sums} where
     sum-one e h g = rw (e, add-one) (rw (drop-cons out i 0 h) at g)
 
     -- the number was made wider
-    pub sum-wide : {x : ℕ} → x ≡ getD out i 0 → after ≡ with before x → i < length out → summed before (drop i out) ≡ all → summed after (drop (i + 1) out) ≡ all
+    pub sum-wide : {x : ℕ} → x ≡ getD out i 0 → after ≡ with before x → i < length out → summed before (drop i out) ≡ all →
+        summed after (drop (i + 1) out) ≡ all
     sum-wide f e h g = sum-one (rw f at e) h g
 
   pub sum-done : {sums : Sums} → length out ≤ i → summed sums (drop i out) ≡ all → sums ≡ all

@@ -1,6 +1,6 @@
 -- The laws of counting, by the tests that the code makes. Assumes nothing.
 use Prim.Native.Nat.{ℕ, _+_, _*_, _%_, _^_, _<_, _≤_}
-use mathlib.Core.Path.{_≡_, refl, sym, _∙_}
+use mathlib.Core.Path.{_≡_, sym}
 use mathlib.Core.Bool.{Bool, true, false}
 use mathlib.Core.List.{List}
 use borrow.Author.Needs.{needs}
@@ -43,7 +43,8 @@ module _ (r : Replayed) (rest counts : List ℕ) where
   unfolding counted
   counted-none h = rw (le-ltb _ _ h)
 
-  pub counted-one : {new : List ℕ} {kind place : ℕ} → new ≡ oneMore counts place → place ≡ placeOf kind (r .same) → kind ≡ getD rest 0 0 → r .more < length rest → new ≡ counted r rest counts
+  pub counted-one : {new : List ℕ} {kind place : ℕ} → new ≡ oneMore counts place → place ≡ placeOf kind (r .same) → kind ≡ getD rest 0 0 →
+      r .more < length rest → new ≡ counted r rest counts
   unfolding counted
   counted-one e f g h = rw (e, f, g, lt-ltb _ _ h)
 

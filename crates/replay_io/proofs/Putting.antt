@@ -1,8 +1,8 @@
 -- The law of a loop that puts numbers of k bytes at the front of a buffer: n of them, of which i stand. Assumes nothing.
-use Prim.Native.Nat.{ℕ, zero, suc, _+_, _*_, _-_, _/_, _<_, _≤_, min}
+use Prim.Native.Nat.{ℕ, zero, suc, _+_, _*_, _-_, _<_, _≤_}
 use native.Mathlib.Omega.{arith}
 use mathlib.Core.Path.{_≡_, refl, sym}
-use mathlib.Core.List.{List, [], _∷_}
+use mathlib.Core.List.{List, _∷_}
 use borrow.Author.Needs.{needs}
 use lib.ListN.{length, drop, take, set}
 use lib.Seq.{drop-drop, length-take-le}
@@ -40,7 +40,8 @@ module _ (k n : ℕ) (s : List ℕ) {old : List ℕ} where
     pub put-place : i < n → Going (numbers k n s) 0 old (left k n s i) i out → i < length out
     put-place h g = going-place (numbers k n s) 0 old (left k n s (i + 1)) i out (number k (drop (k * i) s)) (rw (left-open k n s i h) at g)
 
-    pub put-turn : {x : ℕ} → x ≡ number k (drop (k * i) s) → i < n → Going (numbers k n s) 0 old (left k n s i) i out → Going (numbers k n s) 0 old (left k n s (i + 1)) (i + 1) (set out i x)
+    pub put-turn : {x : ℕ} → x ≡ number k (drop (k * i) s) → i < n → Going (numbers k n s) 0 old (left k n s i) i out →
+        Going (numbers k n s) 0 old (left k n s (i + 1)) (i + 1) (set out i x)
     put-turn e h g = rw e (going-put (numbers k n s) 0 old (left k n s (i + 1)) i out (number k (drop (k * i) s)) (rw (left-open k n s i h) at g))
 
     pub put-done : {m : ℕ} → n ≡ m → n ≤ i → Going (numbers k n s) 0 old (left k n s i) i out → Put (numbers k m s) 0 old i out

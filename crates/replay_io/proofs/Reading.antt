@@ -1,9 +1,9 @@
 -- The laws of reading from bytes, by the tests that the code makes. Assumes nothing.
-use Prim.Native.Nat.{ℕ, zero, suc, _+_, _*_, _-_, _<_, _≤_, min}
+use Prim.Native.Nat.{ℕ, suc, _+_, _*_, _-_, _≤_, min}
 use native.Mathlib.Omega.{arith}
-use mathlib.Core.Path.{_≡_, refl, sym, ap, _∙_}
+use mathlib.Core.Path.{_≡_, refl, sym, _∙_}
 use mathlib.Core.Bool.{Bool, true, false}
-use mathlib.Core.List.{List, [], _∷_}
+use mathlib.Core.List.{List}
 use borrow.Author.Needs.{needs}
 use borrow.Author.Tests.{ltb-true, ltb-false}
 use lib.Dec.{ltb}
@@ -11,7 +11,7 @@ use lib.ListN.{length, getD, take, drop, length-drop, drop-of-length-le, List·g
 use lib.Seq.{drop-drop, getD-drop, length-take-le, take-all, take-length, drop-length}
 use borrow.Rule.Slice.Shared.{byByte}
 use Rattle.refusal.specs.Lists.{pick}
-use Rattle.replay_io.specs.Bytes.{number, numbers, After, Part}
+use Rattle.replay_io.specs.Bytes.{number}
 
 -- A byte, and parts
 

@@ -1,8 +1,6 @@
 -- Each contract determines the answer, the part that is handed back, and what is left in a buffer that is lent, since it is an equation for each. Assumes
 -- nothing.
-use mathlib.Core.Path.{_≡_, sym, _∙_}
-use mathlib.Core.List.{List}
-use Prim.Native.Nat.{ℕ}
+use mathlib.Core.Path.{sym, _∙_}
 use Rattle.replay_io.proofs.read.byte.Reads as byte
 use Rattle.replay_io.proofs.read.after.Reads as after
 use Rattle.replay_io.proofs.read.part.Reads as part

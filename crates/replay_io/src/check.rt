@@ -1,6 +1,6 @@
 // A check over all numbers of a buffer: the sum of the sums after each, in 64 bits, which tells numbers in another order apart.
 ghost use mathlib.Core.Path.{_≡_};
-ghost use Prim.Native.Nat.{_%_, _^_};
+ghost use Prim.Native.Nat.{_%_};
 ghost use Rattle.replay_io.specs.Check.{with, summed, none};
 
 pub struct Sums {

@@ -1,11 +1,10 @@
 // Reads what stands in a slice from a place on, numbers with the least byte first. Past its end every byte is 0, so that no reader asks anything of its
 // caller; whether a record is whole is seen from how many bytes it has.
 ghost use mathlib.Core.Path.{_≡_};
-ghost use Prim.Native.Nat.{_+_, _*_, _/_, _≤_, _<_, min};
-ghost use lib.ListN.{length, getD, drop};
+ghost use Prim.Native.Nat.{_+_, _*_, _≤_, _<_, min};
+ghost use lib.ListN.{getD, drop};
 ghost use Rattle.io.specs.Counts.{Counts};
-ghost use Rattle.written.specs.Over.{Put};
-ghost use Rattle.replay_io.specs.Bytes.{number, numbers, After, Part};
+ghost use Rattle.replay_io.specs.Bytes.{number, After, Part, PutWhole};
 
 pub fn byte(s: &[u8], at: usize) -> u8
     ensures { λ r. ⌜ r ≡ getD (now (s .entry)) at 0 ⌝ }
@@ -98,7 +97,7 @@ pub fn size(s: &[u8], at: usize) -> usize
 // Puts the whole halves of the bytes at the front of `out`, as many as there is place for, and answers how many these are.
 pub fn put_halves(bytes: &[u8], out: &mut [u16]) -> usize
     ensures { λ r. ⌜ Counts r (now (out .exit)) ⌝ }
-    ensures { λ r. ⌜ Put (numbers 2 (min (length (now (bytes .entry)) / 2) (length (now (out .entry)))) (now (bytes .entry))) 0 (now (out .entry)) r (now (out .exit)) ⌝ }
+    ensures { λ r. ⌜ PutWhole 2 (now (bytes .entry)) (now (out .entry)) r (now (out .exit)) ⌝ }
 {
     let n = least(bytes.len() / 2, out.len());
     let mut i = 0;
@@ -112,7 +111,7 @@ pub fn put_halves(bytes: &[u8], out: &mut [u16]) -> usize
 // The same of words.
 pub fn put_words(bytes: &[u8], out: &mut [u32]) -> usize
     ensures { λ r. ⌜ Counts r (now (out .exit)) ⌝ }
-    ensures { λ r. ⌜ Put (numbers 4 (min (length (now (bytes .entry)) / 4) (length (now (out .entry)))) (now (bytes .entry))) 0 (now (out .entry)) r (now (out .exit)) ⌝ }
+    ensures { λ r. ⌜ PutWhole 4 (now (bytes .entry)) (now (out .entry)) r (now (out .exit)) ⌝ }
 {
     let n = least(bytes.len() / 4, out.len());
     let mut i = 0;
