@@ -51,7 +51,8 @@ module _ (i y : ℕ) where
   nearer e h = let k : i < 1514 = early e h in omega arith
 
 module _ (i y : ℕ) {xs : List ℕ} {n : ℕ} {old : List ℕ} {m : ℕ} {out : List ℕ} where
-  pub drawn-turn : (x g : ℕ) {r : ℕ} {new : List ℕ} → Shown (g ∷ []) m out r new → g ≡ glyphOf y x → y ≡ getD forms i 0 → 0 < y → Coming xs n old (drawn i x) m out → Coming xs n old (drawn (i + 1) x) r new
+  pub drawn-turn : (x g : ℕ) {r : ℕ} {new : List ℕ} → Shown (g ∷ []) m out r new → g ≡ glyphOf y x → y ≡ getD forms i 0 → 0 < y →
+      Coming xs n old (drawn i x) m out → Coming xs n old (drawn (i + 1) x) r new
   unfolding drawn
   drawn-turn x g p k e h c = coming-turn (rw (k, e) at p) (rw (filled-open (λ z. glyphOf z x ∷ []) forms i (rw e at h)) at c)
 
@@ -59,7 +60,8 @@ module _ (i y : ℕ) {xs : List ℕ} {n : ℕ} {old : List ℕ} {m : ℕ} {out :
   unfolding drawn
   drawn-done x e h c = let z : getD forms i 0 ≡ 0 = omega arith in coming-done (rw (filled-shut (λ z. glyphOf z x ∷ []) forms i z) at c)
 
-  pub formed-turn : (a b c : ℕ) {r : ℕ} {new : List ℕ} → Shown (piece y a b c) m out r new → y ≡ getD forms i 0 → 0 < y → Coming xs n old (formed i a b c) m out → Coming xs n old (formed (i + 1) a b c) r new
+  pub formed-turn : (a b c : ℕ) {r : ℕ} {new : List ℕ} → Shown (piece y a b c) m out r new → y ≡ getD forms i 0 → 0 < y →
+      Coming xs n old (formed i a b c) m out → Coming xs n old (formed (i + 1) a b c) r new
   unfolding formed
   formed-turn a b c p e h g = coming-turn (rw e at p) (rw (filled-open (λ z. piece z a b c) forms i (rw e at h)) at g)
 
@@ -106,7 +108,8 @@ module _ (y x : ℕ) where
 pub digit-known : (y x k : ℕ) {v : ℕ} → y ≡ k → v ≡ digitIn k x → v ≡ digitIn y x
 digit-known y x k h e = rw h e
 
-pub digit-last : (y x : ℕ) → (y ≡ 129 → ⊥) → (y ≡ 130 → ⊥) → (y ≡ 131 → ⊥) → (y ≡ 132 → ⊥) → (y ≡ 133 → ⊥) → (y ≡ 134 → ⊥) → (y ≡ 135 → ⊥) → x / 65536 / 4096 ≡ digitIn y x
+pub digit-last : (y x : ℕ) → (y ≡ 129 → ⊥) → (y ≡ 130 → ⊥) → (y ≡ 131 → ⊥) → (y ≡ 132 → ⊥) → (y ≡ 133 → ⊥) →
+    (y ≡ 134 → ⊥) → (y ≡ 135 → ⊥) → x / 65536 / 4096 ≡ digitIn y x
 unfolding digitIn
 digit-last y x h i j k l m n = rw (ne-eqb y 129 h, ne-eqb y 130 i, ne-eqb y 131 j, ne-eqb y 132 k, ne-eqb y 133 l, ne-eqb y 134 m, ne-eqb y 135 n)
 
@@ -169,7 +172,9 @@ module _ (low high f : ℕ) {n r : ℕ} {d d₁ : List ℕ} where
   pub range-one : Shown (drawn f low) n d r d₁ → drawn f low ≡ point low → low ≡ high → Shown (range low high) n d r d₁
   range-one p e h = if-same low high (point low) _ h (rw e at p)
 
-  pub range-both : (g : ℕ) {q s : ℕ} {d₂ d₃ : List ℕ} → Shown (drawn f low) n d r d₁ → Shown (drawn 60 0) r d₁ q d₂ → Shown (drawn g high) q d₂ s d₃ → drawn f low ≡ point low → drawn g high ≡ point high → (low ≡ high → ⊥) → Shown (range low high) n d s d₃
+  pub range-both : (g : ℕ) {q s : ℕ} {d₂ d₃ : List ℕ} → Shown (drawn f low) n d r d₁ → Shown (drawn 60 0) r d₁ q d₂ →
+      Shown (drawn g high) q d₂ s d₃ → drawn f low ≡ point low → drawn g high ≡ point high → (low ≡ high → ⊥) →
+      Shown (range low high) n d s d₃
   unfolding drawn formed filled forms joined ifLess ifSame piece glyphOf digitIn numberIn exitIn lowIn highIn
   range-both g p q u e k h = if-not-same low high (point low) _ h (joined-3 (rw e at p) q (rw k at u))
 
@@ -182,13 +187,15 @@ module _ (y a b c : ℕ) {n r : ℕ} {d new : List ℕ} where
   unfolding piece ifLess
   piece-number p e h k = rw (le-ltb y 128 h, lt-ltb y 131 k) (rw e at p)
 
-  pub piece-exit : (f x : ℕ) → Shown (drawn f x) n d r new → drawn f x ≡ symbol x → x ≡ exitIn y a → 131 ≤ y → y < 134 → Shown (piece y a b c) n d r new
+  pub piece-exit : (f x : ℕ) → Shown (drawn f x) n d r new → drawn f x ≡ symbol x → x ≡ exitIn y a → 131 ≤ y → y < 134 →
+      Shown (piece y a b c) n d r new
   unfolding piece ifLess
   piece-exit f x p i e h k =
       let h' : 128 ≤ y = omega arith in
       rw (le-ltb y 128 h', le-ltb y 131 h, lt-ltb y 134 k) (rw e at (rw i at p))
 
-  pub piece-range : {low high : ℕ} → Shown (range low high) n d r new → low ≡ lowIn y a b c → high ≡ highIn y b c → 134 ≤ y → Shown (piece y a b c) n d r new
+  pub piece-range : {low high : ℕ} → Shown (range low high) n d r new → low ≡ lowIn y a b c → high ≡ highIn y b c → 134 ≤ y →
+      Shown (piece y a b c) n d r new
   unfolding piece ifLess
   piece-range p e i h =
       let h' : 128 ≤ y = omega arith in
@@ -286,10 +293,12 @@ module _ (p low high : ℕ) where
 pub ruleset gaps = (needs, next-line, same-line)
 
 module _ (f a b c : ℕ) where
-  pub run-ranges : ((x y z : ℕ) → formed f x y z ≡ rangesLine (a / 256 % 256) y z) → (a % 256 ≡ 0 → ⊥) → (a % 256 ≡ 1 → ⊥) → a % 256 ≡ 5 → formed f a b c ≡ runText a b c
+  pub run-ranges : ((x y z : ℕ) → formed f x y z ≡ rangesLine (a / 256 % 256) y z) → (a % 256 ≡ 0 → ⊥) → (a % 256 ≡ 1 → ⊥) →
+      a % 256 ≡ 5 → formed f a b c ≡ runText a b c
   run-ranges e h i j = is-not-same (a % 256) 0 _ _ h (is-not-same (a % 256) 1 _ _ i (is-same (a % 256) 5 _ _ j (e a b c)))
 
-  pub run-until : ((y z : ℕ) → formed f a y z ≡ untilText a) → (a % 256 ≡ 0 → ⊥) → (a % 256 ≡ 1 → ⊥) → (a % 256 ≡ 5 → ⊥) → formed f a b c ≡ runText a b c
+  pub run-until : ((y z : ℕ) → formed f a y z ≡ untilText a) → (a % 256 ≡ 0 → ⊥) → (a % 256 ≡ 1 → ⊥) → (a % 256 ≡ 5 → ⊥) →
+      formed f a b c ≡ runText a b c
   run-until e h i j = is-not-same (a % 256) 0 _ _ h (is-not-same (a % 256) 1 _ _ i (is-not-same (a % 256) 5 _ _ j (e b c)))
 
 pub ruleset runs = (choices, is-nothing, is-always, run-ranges, run-until)
@@ -299,7 +308,8 @@ module _ (r : ℕ) where
   pub rule-known : (k : ℕ) {t : List ℕ} → r ≡ k → t ≡ ruleText k → t ≡ ruleText r
   rule-known k h e = rw h e
 
-  pub rule-last : (r ≡ 1 → ⊥) → (r ≡ 2 → ⊥) → (r ≡ 3 → ⊥) → (r ≡ 4 → ⊥) → (r ≡ 5 → ⊥) → (r ≡ 6 → ⊥) → (r ≡ 7 → ⊥) → (r ≡ 8 → ⊥) → formed 1445 0 0 0 ≡ ruleText r
+  pub rule-last : (r ≡ 1 → ⊥) → (r ≡ 2 → ⊥) → (r ≡ 3 → ⊥) → (r ≡ 4 → ⊥) → (r ≡ 5 → ⊥) → (r ≡ 6 → ⊥) →
+      (r ≡ 7 → ⊥) → (r ≡ 8 → ⊥) → formed 1445 0 0 0 ≡ ruleText r
   unfolding drawn formed filled forms joined ifLess ifSame piece glyphOf digitIn numberIn exitIn lowIn highIn
   rule-last h i j k l m n o = rw (ne-eqb r 1 h, ne-eqb r 2 i, ne-eqb r 3 j, ne-eqb r 4 k, ne-eqb r 5 l, ne-eqb r 6 m, ne-eqb r 7 n, ne-eqb r 8 o)
 
@@ -311,13 +321,17 @@ module _ (r : ℕ) where
     unfolding ifSame
     reason-rule h e = rw h e
 
-    pub reason-last : (r ≡ 1 → ⊥) → (r ≡ 2 → ⊥) → (r ≡ 3 → ⊥) → (r ≡ 4 → ⊥) → (r ≡ 5 → ⊥) → (r ≡ 6 → ⊥) → formed 948 0 0 0 ≡ reasonText r place
+    pub reason-last : (r ≡ 1 → ⊥) → (r ≡ 2 → ⊥) → (r ≡ 3 → ⊥) → (r ≡ 4 → ⊥) → (r ≡ 5 → ⊥) → (r ≡ 6 → ⊥) →
+        formed 948 0 0 0 ≡ reasonText r place
     unfolding drawn formed filled forms joined ifLess ifSame piece glyphOf digitIn numberIn exitIn lowIn highIn
     reason-last h i j k l m = rw (ne-eqb r 1 h, ne-eqb r 2 i, ne-eqb r 3 j, ne-eqb r 4 k, ne-eqb r 5 l, ne-eqb r 6 m)
 
 pub ruleset reasons = (needs, rule-known, rule-last, reason-rule, reason-known, reason-last)
 
-pub ruleset lines = (choices, record-plain, record-end, record-actions, record-both, until-1, until-2, until-3, on-1, on-2, on-3, on-4, not-compiled, starts-at, end-to, end-escape, end-continuation)
+pub ruleset drawn-runs = (until-1, until-2, until-3, on-1, on-2, on-3, on-4)
+
+pub ruleset lines =
+    (choices, drawn-runs, record-plain, record-end, record-actions, record-both, not-compiled, starts-at, end-to, end-escape, end-continuation)
 
 -- the forms that are not chosen
 

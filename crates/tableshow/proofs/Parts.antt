@@ -23,15 +23,20 @@ use Rattle.continuations.specs.Continuation.{eofContinuation}
 use Rattle.tableshow.specs.Shown.{Shown, joined}
 use Rattle.tableshow.specs.Names.{number, hexDigit, range, target}
 use Rattle.tableshow.specs.Forms.{formed}
-use Rattle.tableshow.specs.Rows.{gap, after, ending, item, orElse, targetOn, edge, lowAfter, itemsAfter, edgeAt, lowAt, itemsAt, asciiFrom, asciiText, rangesFrom, rowText, listed, wideAt, wideRow, firstWith, wideWith, wideText, escapesAt, escapesText, runAt}
+use Rattle.tableshow.specs.Rows.{gap, after, ending, item, orElse, targetOn, edge, lowAfter, itemsAfter, edgeAt, lowAt, itemsAt, asciiFrom}
+use Rattle.tableshow.specs.Rows.{asciiText, rangesFrom, rowText, listed, wideAt, wideRow, firstWith, wideWith, wideText, escapesAt, escapesText}
+use Rattle.tableshow.specs.Rows.{runAt}
 use Rattle.tableshow.specs.Texts.{escapes-label}
-use Rattle.tableshow.specs.Page.{part, recordLine, saidLine, acceptText, headText, runText, runLine, endTarget, endContinuation, startLine, modeText, tableText, reasonText, refusalText}
+use Rattle.tableshow.specs.Page.{part, recordLine, saidLine, acceptText, headText, runText, runLine, endTarget, endContinuation, startLine}
+use Rattle.tableshow.specs.Page.{modeText, tableText, reasonText, refusalText}
 use Rattle.tableshow.proofs.Filling.{is-no-accept, is-state, is-table, is-refused, is-ascii, is-wide, is-wide-as, is-escapes}
-use Rattle.tableshow.proofs.Shows.{shows, joined-2, if-same, if-not-same, if-same-as, if-not-same-as, shown-none, Coming, coming-start, coming-turn, coming-last}
+use Rattle.tableshow.proofs.Shows.{shows, joined-2, if-same, if-not-same, if-same-as, if-not-same-as, shown-none, Coming, coming-start}
+use Rattle.tableshow.proofs.Shows.{coming-turn, coming-last}
 
 -- Numbers
 
-pub number-put : (x k : ℕ) (ds : List ℕ) {n : ℕ} {d : List ℕ} {r : ℕ} {new : List ℕ} → Shown (take k ds) n d r new → take k ds ≡ digits 10 k x → Fewest 10 1 x k → Fits w64 x → Shown (number x) n d r new
+pub number-put : (x k : ℕ) (ds : List ℕ) {n : ℕ} {d : List ℕ} {r : ℕ} {new : List ℕ} → Shown (take k ds) n d r new →
+    take k ds ≡ digits 10 k x → Fewest 10 1 x k → Fits w64 x → Shown (number x) n d r new
 number-put x k ds p e w h = rw (found x k ds e w h) at p
 
 module _ (x : ℕ) where
@@ -85,7 +90,8 @@ module _ (t v low x p : ℕ) {n : ℕ} {d : List ℕ} where
   unfolding edge
   edge-dead h k = if-not-same t v [] _ h (if-same t 65535 [] _ k (shown-none n d))
 
-  pub edge-on : {r : ℕ} {new : List ℕ} → Shown (item p low x 0 t) n d r new → (t ≡ v → ⊥) → (t ≡ 65535 → ⊥) → Shown (edge t v low x p) n d r new
+  pub edge-on : {r : ℕ} {new : List ℕ} → Shown (item p low x 0 t) n d r new → (t ≡ v → ⊥) → (t ≡ 65535 → ⊥) →
+      Shown (edge t v low x p) n d r new
   unfolding edge
   edge-on q h k = if-not-same t v [] _ h (if-not-same t 65535 [] _ k q)
 
@@ -117,7 +123,8 @@ module _ (w : List ℕ) (s : ℕ) {r a : ℕ} where
   pub is-wide-row : r ≡ getD w (a + s * 4 + 2) 0 → a ≡ getD w 2 0 → r ≡ wideRow w s
   is-wide-row e i = e ∙ (rw i)
 
-  pub is-escapes-at : (b b' c c' f f' : ℕ) → r ≡ listed w a b c f s → a ≡ getD w 0 0 → b ≡ getD w b' 0 → b' ≡ getD w 3 0 → c ≡ getD w c' 0 → c' ≡ getD w 5 0 → f ≡ getD w f' 0 → f' ≡ getD w 6 0 → r ≡ escapesAt w s
+  pub is-escapes-at : (b b' c c' f f' : ℕ) → r ≡ listed w a b c f s → a ≡ getD w 0 0 → b ≡ getD w b' 0 → b' ≡ getD w 3 0 →
+      c ≡ getD w c' 0 → c' ≡ getD w 5 0 → f ≡ getD w f' 0 → f' ≡ getD w 6 0 → r ≡ escapesAt w s
   is-escapes-at b b' c c' f f' e i j k l m o q = e ∙ (rw (i, j, k, l, m, o, q))
 
 pub ruleset places = (needs, past, is-run-at, is-wide-at, is-wide-row, is-escapes-at)
@@ -137,7 +144,9 @@ pub edges-start : (w : List ℕ) (s count n : ℕ) (old : List ℕ) {to : ℕ} �
 edges-start w s count n old e = record { all = omega arith; on = e; coming = coming-start _ _ _ }
 
 module _ {w : List ℕ} {s count n : ℕ} {old : List ℕ} {left x low p to m : ℕ} {out : List ℕ} where
-  pub edges-turn : {v r l i : ℕ} {new : List ℕ} → Shown (edge to v low x p) m out r new → l ≡ lowAfter to v low (x + 1) → i ≡ itemsAfter to v p → v ≡ targetOn w s (x + 1) → 0 < left → Edging w s count n old left x low p to m out → Edging w s count n old (left - 1) (x + 1) l i v r new
+  pub edges-turn : {v r l i : ℕ} {new : List ℕ} → Shown (edge to v low x p) m out r new → l ≡ lowAfter to v low (x + 1) →
+      i ≡ itemsAfter to v p → v ≡ targetOn w s (x + 1) → 0 < left → Edging w s count n old left x low p to m out →
+      Edging w s count n old (left - 1) (x + 1) l i v r new
   unfolding asciiFrom edgeAt lowAt itemsAt
   edges-turn q c e b h g =
       let k : x + left ≡ count = g .all in
@@ -148,7 +157,8 @@ module _ {w : List ℕ} {s count n : ℕ} {old : List ℕ} {left x low p to m : 
         coming = rw (c, e, g .on, b) (coming-turn (rw (g .on, b) at q) g');
       }
 
-  pub edges-done : (f : ℕ) {r : ℕ} {new : List ℕ} → Shown (formed f 0 0 0) m out r new → formed f 0 0 0 ≡ ending p → left ≤ 0 → Edging w s count n old left x low p to m out → Shown (asciiFrom w s count 0 0 0) n old r new
+  pub edges-done : (f : ℕ) {r : ℕ} {new : List ℕ} → Shown (formed f 0 0 0) m out r new → formed f 0 0 0 ≡ ending p → left ≤ 0 →
+      Edging w s count n old left x low p to m out → Shown (asciiFrom w s count 0 0 0) n old r new
   unfolding asciiFrom
   edges-done f q e h g = let z : left ≡ 0 = omega arith in coming-last (rw e at q) (rw z at (g .coming))
 
@@ -160,20 +170,24 @@ pub ruleset edges = (needs, edges-start, edges-turn, edges-done, edges-size)
 pub ruleset edges-on = (edges-turn)
 
 module _ (kind : ℕ) (w : List ℕ) (left at p : ℕ) {xs : List ℕ} {n : ℕ} {old : List ℕ} {m : ℕ} {out : List ℕ} where
-  pub ranges-turn : {a b c r i : ℕ} {new : List ℕ} → Shown (item p a b kind c) m out r new → a ≡ getD w at 0 → b ≡ getD w (at + 1) 0 → c ≡ getD w (at + 2) 0 → i ≡ after p → 0 < left → Coming xs n old (rangesFrom kind w left at p) m out → Coming xs n old (rangesFrom kind w (left - 1) (at + 3) i) r new
+  pub ranges-turn : {a b c r i : ℕ} {new : List ℕ} → Shown (item p a b kind c) m out r new → a ≡ getD w at 0 → b ≡ getD w (at + 1) 0 →
+      c ≡ getD w (at + 2) 0 → i ≡ after p → 0 < left → Coming xs n old (rangesFrom kind w left at p) m out →
+      Coming xs n old (rangesFrom kind w (left - 1) (at + 3) i) r new
   unfolding rangesFrom
   ranges-turn q a b c e h g =
       let g' : Coming xs n old (rangesFrom kind w (suc (left - 1)) at p) m out = rw (suc-of left h) at g in
       rw e (coming-turn (rw (a, b, c) at q) g')
 
-  pub ranges-done : (f : ℕ) {r : ℕ} {new : List ℕ} → Shown (formed f 0 0 0) m out r new → formed f 0 0 0 ≡ ending p → left ≤ 0 → Coming xs n old (rangesFrom kind w left at p) m out → Shown xs n old r new
+  pub ranges-done : (f : ℕ) {r : ℕ} {new : List ℕ} → Shown (formed f 0 0 0) m out r new → formed f 0 0 0 ≡ ending p → left ≤ 0 →
+      Coming xs n old (rangesFrom kind w left at p) m out → Shown xs n old r new
   unfolding rangesFrom
   ranges-done f q e h g = let z : left ≡ 0 = omega arith in coming-last (rw e at q) (rw z at g)
 
 pub ruleset ranges = (needs, coming-start, ranges-turn, ranges-done)
 
 module _ (w : List ℕ) (row left t : ℕ) {f : ℕ} where
-  pub first-turn : {x : ℕ} → x ≡ wideRow w t → (x ≡ row → ⊥) → 0 < left → firstWith w row left t ≡ f → firstWith w row (left - 1) (t + 1) ≡ f
+  pub first-turn : {x : ℕ} → x ≡ wideRow w t → (x ≡ row → ⊥) → 0 < left → firstWith w row left t ≡ f →
+      firstWith w row (left - 1) (t + 1) ≡ f
   unfolding firstWith
   first-turn {x} e k h g =
       let g' : firstWith w row (suc (left - 1)) t ≡ f = rw (suc-of left h) at g in
@@ -194,28 +208,37 @@ pub ruleset firsts = (needs, first-turn, first-hit, first-done)
 -- What is shown by a form, of numbers that calls answered
 
 module _ {n : ℕ} {d : List ℕ} {r : ℕ} {new : List ℕ} (f : ℕ) where
-  pub said-put : (g : Said) (x : Bool) (k : ℕ) {a l b : ℕ} → Shown (formed f k a b) n d r new → ((j rule : ℕ) → formed f j rule b ≡ recordLine j rule l b) → a ≡ part 0 g → l ≡ pick x 1 0 → pick x 1 0 ≡ part 1 g → b ≡ part 2 g → Shown (saidLine k g) n d r new
+  pub said-put : (g : Said) (x : Bool) (k : ℕ) {a l b : ℕ} → Shown (formed f k a b) n d r new →
+      ((j rule : ℕ) → formed f j rule b ≡ recordLine j rule l b) → a ≡ part 0 g → l ≡ pick x 1 0 → pick x 1 0 ≡ part 1 g →
+      b ≡ part 2 g → Shown (saidLine k g) n d r new
   unfolding saidLine
   said-put g x k {a} p h i j e b = rw (← i, ← e, ← j, ← b) (rw (h k a) at p)
 
   module _ (w : List ℕ) (s : ℕ) {k : ℕ} {g : Said} where
-    pub start-put : Shown (formed f s k 0) n d r new → ((m : ℕ) → formed f m k 0 ≡ startLine m k) → k ≡ orElse NONE g → g ≡ modeStart w s → Shown (modeText w s) n d r new
+    pub start-put : Shown (formed f s k 0) n d r new → ((m : ℕ) → formed f m k 0 ≡ startLine m k) → k ≡ orElse NONE g → g ≡ modeStart w s →
+        Shown (modeText w s) n d r new
     start-put p h a b = rw (← b, ← a) (rw (h s) at p)
 
-    pub end-put : Shown (formed f k 0 0) n d r new → formed f k 0 0 ≡ endTarget k → k ≡ orElse 65535 g → g ≡ eofTarget w s → Shown (endTarget (orElse 65535 (eofTarget w s))) n d r new
+    pub end-put : Shown (formed f k 0 0) n d r new → formed f k 0 0 ≡ endTarget k → k ≡ orElse 65535 g → g ≡ eofTarget w s →
+        Shown (endTarget (orElse 65535 (eofTarget w s))) n d r new
     end-put p h a b = rw (← b, ← a) (rw h at p)
 
-    pub continuation-put : Shown (formed f k 0 0) n d r new → formed f k 0 0 ≡ endContinuation k → k ≡ orElse NONE g → g ≡ eofContinuation w s → Shown (endContinuation (orElse NONE (eofContinuation w s))) n d r new
+    pub continuation-put : Shown (formed f k 0 0) n d r new → formed f k 0 0 ≡ endContinuation k → k ≡ orElse NONE g → g ≡ eofContinuation w s →
+        Shown (endContinuation (orElse NONE (eofContinuation w s))) n d r new
     continuation-put p h a b = rw (← b, ← a) (rw h at p)
 
-  pub run-line : (w : List ℕ) (at : ℕ) {a b c : ℕ} → Shown (formed f a b c) n d r new → ((y z : ℕ) → formed f a y z ≡ runText a y z) → a ≡ getD w at 0 → b ≡ getD w (at + 1) 0 → c ≡ getD w (at + 2) 0 → Shown (runLine w at) n d r new
+  pub run-line : (w : List ℕ) (at : ℕ) {a b c : ℕ} → Shown (formed f a b c) n d r new → ((y z : ℕ) → formed f a y z ≡ runText a y z) →
+      a ≡ getD w at 0 → b ≡ getD w (at + 1) 0 → c ≡ getD w (at + 2) 0 → Shown (runLine w at) n d r new
   run-line w at {a} {b} {c} p h i j k = rw (← i, ← j, ← k) (rw (h b c) at p)
 
   module _ {q : ℕ} {d₂ : List ℕ} where
-    pub item-put : (p low high kind t g : ℕ) → Shown (formed f low high 0) n d r new → Shown (formed g t 0 0) r new q d₂ → ((a b : ℕ) → formed f a b 0 ≡ joined (gap p ∷ range a b ∷ [])) → formed g t 0 0 ≡ target kind t → Shown (item p low high kind t) n d q d₂
+    pub item-put : (p low high kind t g : ℕ) → Shown (formed f low high 0) n d r new → Shown (formed g t 0 0) r new q d₂ →
+        ((a b : ℕ) → formed f a b 0 ≡ joined (gap p ∷ range a b ∷ [])) → formed g t 0 0 ≡ target kind t →
+        Shown (item p low high kind t) n d q d₂
     item-put p low high kind t g x y h i = joined-2 (rw (h low high) at x) (rw i at y)
 
-    pub refusal-put : (m place : ℕ) → Shown (formed 692 m place 0) n d r new → Shown (formed f 0 0 0) r new q d₂ → formed f 0 0 0 ≡ reasonText m place → Shown (refusalText m place) n d q d₂
+    pub refusal-put : (m place : ℕ) → Shown (formed 692 m place 0) n d r new → Shown (formed f 0 0 0) r new q d₂ →
+        formed f 0 0 0 ≡ reasonText m place → Shown (refusalText m place) n d q d₂
     refusal-put m place x y h = joined-2 (rw (is-refused m place) at x) (rw h at y)
 
 module _ {n : ℕ} {d : List ℕ} {r : ℕ} {new : List ℕ} where
@@ -230,13 +253,16 @@ module _ {n : ℕ} {d : List ℕ} {r : ℕ} {new : List ℕ} where
     accept-put g p e h = if-not-same k NONE _ _ h (rw e at p)
 
   module _ (w : List ℕ) (s : ℕ) where
-    pub head-put : {k q : ℕ} {g : Said} {d₂ : List ℕ} → Shown (formed 148 s 0 0) n d r new → Shown (acceptText w k) r new q d₂ → k ≡ orElse NONE g → g ≡ acceptOf w s → Shown (headText w s) n d q d₂
+    pub head-put : {k q : ℕ} {g : Said} {d₂ : List ℕ} → Shown (formed 148 s 0 0) n d r new → Shown (acceptText w k) r new q d₂ →
+        k ≡ orElse NONE g → g ≡ acceptOf w s → Shown (headText w s) n d q d₂
     head-put p q a b = joined-2 (rw (is-state s) at p) (rw (a, b) at q)
 
-    pub ascii-put : {q : ℕ} {d₂ : List ℕ} → Shown (formed 497 0 0 0) n d r new → Shown (asciiFrom w s 128 0 0 0) r new q d₂ → Shown (asciiText w s) n d q d₂
+    pub ascii-put : {q : ℕ} {d₂ : List ℕ} → Shown (formed 497 0 0 0) n d r new → Shown (asciiFrom w s 128 0 0 0) r new q d₂ →
+        Shown (asciiText w s) n d q d₂
     ascii-put p q = joined-2 (rw is-ascii at p) q
 
-    pub wide-put : {at t row : ℕ} → Shown (wideWith w s at t) n d r new → at ≡ wideAt w row → t ≡ firstWith w row s 0 → row ≡ wideRow w s → Shown (wideText w s) n d r new
+    pub wide-put : {at t row : ℕ} → Shown (wideWith w s at t) n d r new → at ≡ wideAt w row → t ≡ firstWith w row s 0 → row ≡ wideRow w s →
+        Shown (wideText w s) n d r new
     wide-put p a b c = rw (← c, ← b, ← a) p
 
     pub escapes-put : {at : ℕ} → Shown (rowText escapes-label 1 w (at + 1)) n d r new → at ≡ escapesAt w s → Shown (escapesText w s) n d r new
@@ -256,7 +282,8 @@ module _ (w : List ℕ) (s at t : ℕ) {n : ℕ} {d : List ℕ} where
   pub wide-none : (k : ℕ) → k ≡ getD w at 0 → k ≡ 0 → (t ≡ s → ⊥) → Shown (wideWith w s at t) n d n d
   wide-none k e i h = if-not-same t s _ _ h (if-same-as (getD w at 0) 0 [] _ k e i (shown-none n d))
 
-  pub wide-shared : (k : ℕ) {r : ℕ} {new : List ℕ} → Shown (formed 517 t 0 0) n d r new → k ≡ getD w at 0 → (k ≡ 0 → ⊥) → (t ≡ s → ⊥) → Shown (wideWith w s at t) n d r new
+  pub wide-shared : (k : ℕ) {r : ℕ} {new : List ℕ} → Shown (formed 517 t 0 0) n d r new → k ≡ getD w at 0 → (k ≡ 0 → ⊥) →
+      (t ≡ s → ⊥) → Shown (wideWith w s at t) n d r new
   wide-shared k p e i h = if-not-same t s _ _ h (if-not-same-as (getD w at 0) 0 [] _ k e i (rw (is-wide-as t) at p))
 
 -- the row whose length k stands at a place
@@ -264,7 +291,11 @@ module _ (label : List ℕ) (kind : ℕ) (w : List ℕ) (at k : ℕ) {n : ℕ} {
   pub row-none : k ≡ getD w at 0 → k ≡ 0 → Shown (rowText label kind w at) n d n d
   row-none e h = if-same-as (getD w at 0) 0 [] _ k e h (shown-none n d)
 
-  pub row-put : {r q : ℕ} {d₁ d₂ : List ℕ} → Shown label n d r d₁ → Shown (rangesFrom kind w k (at + 1) 0) r d₁ q d₂ → k ≡ getD w at 0 → (k ≡ 0 → ⊥) → Shown (rowText label kind w at) n d q d₂
+  pub row-put : {r q : ℕ} {d₁ d₂ : List ℕ} → Shown label n d r d₁ → Shown (rangesFrom kind w k (at + 1) 0) r d₁ q d₂ → k ≡ getD w at 0 →
+      (k ≡ 0 → ⊥) → Shown (rowText label kind w at) n d q d₂
   row-put p q e h = if-not-same-as (getD w at 0) 0 [] _ k e h (joined-2 p (rw e at q))
 
-pub ruleset parts = (shows, said-put, start-put, end-put, continuation-put, run-line, item-put, refusal-put, table-put, accept-none, accept-put, head-put, ascii-put, wide-put, escapes-put, run-put, escapes-row, wide-row, wide-none, wide-shared, row-none, row-put)
+pub ruleset rows = (ascii-put, wide-put, escapes-put, escapes-row, wide-row, wide-none, wide-shared, row-none, row-put)
+
+pub ruleset parts =
+    (shows, rows, said-put, start-put, end-put, continuation-put, run-line, item-put, refusal-put, table-put, accept-none, accept-put, head-put, run-put)

@@ -1,5 +1,5 @@
 -- The laws of writing onto a page: one behind the other, in a loop, and by a test. Assumes nothing.
-use Prim.Native.Nat.{ℕ, zero, suc, _+_, _-_, _<_, _≤_}
+use Prim.Native.Nat.{ℕ, zero, suc, _+_, _<_, _≤_}
 use native.Mathlib.Nat.{not-suc-le-zero, le-of-suc-le-suc}
 use native.Mathlib.Omega.{arith}
 use mathlib.Core.Path.{_≡_, refl, sym, ap, _∙_}
@@ -7,11 +7,10 @@ use mathlib.Core.Bool.{Bool, true, false}
 use mathlib.Core.List.{List, [], _∷_, _++_, append-nil}
 use borrow.Author.Needs.{needs}
 use borrow.Author.Tests.{lt-ltb, le-ltb, ltb-true, ltb-false, eq-eqb, ne-eqb}
-use lib.Dec.{ltb, eqb}
-use lib.ListN.{length, set, getD, take, drop, length-append, length-set, drop-of-length-le}
+use lib.Dec.{ltb}
+use lib.ListN.{length, set, getD, take, drop, length-append, drop-of-length-le}
 use lib.Seq.{drop-cons, length-take-le}
 use native.Mathlib.Numerals.{add-one}
-use Rattle.refusal.specs.Lists.{pick}
 use Rattle.written.specs.Over.{over, lay}
 use Rattle.written.proofs.Overs.{lay-length, lay-none, lay-put, lay-lay}
 use Rattle.tableshow.specs.Shown.{reached, Shown, joined, ifLess, ifSame}
@@ -102,7 +101,8 @@ module _ {a : List ℕ} {n : ℕ} {d : List ℕ} {r : ℕ} {d₁ : List ℕ} whe
   unfolding joined
   joined-1 p = rw append-nil p
 
-  joined-more : (ts : List (List ℕ)) {q : ℕ} {d₂ : List ℕ} → Shown a n d r d₁ → Shown (joined ts) r d₁ q d₂ → Shown (joined (a ∷ ts)) n d q d₂
+  joined-more : (ts : List (List ℕ)) {q : ℕ} {d₂ : List ℕ} → Shown a n d r d₁ → Shown (joined ts) r d₁ q d₂ →
+      Shown (joined (a ∷ ts)) n d q d₂
   unfolding joined
   joined-more ts p q = shown-behind p q
 
@@ -115,7 +115,8 @@ module _ {a b : List ℕ} {n : ℕ} {d : List ℕ} {r : ℕ} {d₁ : List ℕ} {
     joined-3 p q t = joined-more (b ∷ c ∷ []) p (joined-more (c ∷ []) q (joined-1 t))
 
     module _ {e : List ℕ} {u : ℕ} {d₄ : List ℕ} where
-      pub joined-4 : Shown a n d r d₁ → Shown b r d₁ q d₂ → Shown c q d₂ s d₃ → Shown e s d₃ u d₄ → Shown (joined (a ∷ b ∷ c ∷ e ∷ [])) n d u d₄
+      pub joined-4 : Shown a n d r d₁ → Shown b r d₁ q d₂ → Shown c q d₂ s d₃ → Shown e s d₃ u d₄ →
+          Shown (joined (a ∷ b ∷ c ∷ e ∷ [])) n d u d₄
       joined-4 p q t v = joined-more (b ∷ c ∷ e ∷ []) p (joined-more (c ∷ e ∷ []) q (joined-more (e ∷ []) t (joined-1 v)))
 
 -- By a test
@@ -171,9 +172,11 @@ pub coming-start : (xs : List ℕ) (n : ℕ) (old : List ℕ) → Coming xs n ol
 coming-start xs n old = record { next = refl; is = refl; size = refl }
 
 module _ {xs : List ℕ} {n : ℕ} {old : List ℕ} {m : ℕ} {out : List ℕ} where
-  pub coming-turn : {ys rest : List ℕ} {r : ℕ} {new : List ℕ} → Shown ys m out r new → Coming xs n old (ys ++ rest) m out → Coming xs n old rest r new
+  pub coming-turn : {ys rest : List ℕ} {r : ℕ} {new : List ℕ} → Shown ys m out r new → Coming xs n old (ys ++ rest) m out →
+      Coming xs n old rest r new
   coming-turn {ys} {rest} {r} {new} p g =
-      let e : reached r (length rest) (length new) ≡ reached m (length (ys ++ rest)) (length out) = rw (shown-size p, length-append ys rest) (reach m (length ys) (length rest) (length out) r (p .next)) in
+      let e : reached r (length rest) (length new) ≡ reached m (length (ys ++ rest)) (length out) = rw (shown-size p, length-append ys rest)
+      (reach m (length ys) (length rest) (length out) r (p .next)) in
       record {
         next = e ∙ g .next;
         is = laid rest p ∙ g .is;
@@ -193,7 +196,8 @@ pub text-open : (t : List ℕ) (i : ℕ) → i < length t → drop i t ≡ (getD
 text-open t i h = rw (drop-cons t i 0 h, add-one)
 
 module _ (t : List ℕ) (i : ℕ) {xs : List ℕ} {n : ℕ} {old : List ℕ} {m : ℕ} {out : List ℕ} where
-  pub text-turn : {r : ℕ} {new : List ℕ} → i < length t → Shown (getD t i 0 ∷ []) m out r new → Coming xs n old (drop i t) m out → Coming xs n old (drop (i + 1) t) r new
+  pub text-turn : {r : ℕ} {new : List ℕ} → i < length t → Shown (getD t i 0 ∷ []) m out r new → Coming xs n old (drop i t) m out →
+      Coming xs n old (drop (i + 1) t) r new
   text-turn h p g = coming-turn p (rw (text-open t i h) at g)
 
   pub text-done : length t ≤ i → Coming xs n old (drop i t) m out → Shown xs n old m out
@@ -225,7 +229,8 @@ over-page : (xs d : List ℕ) (r : ℕ) → r ≡ reached 0 (length xs) (length 
 unfolding over
 over-page [] d r e = rw (reach-no (length d) r e) (take-none d)
 over-page (x ∷ xs) [] r e = rw (reach-nowhere (suc (length xs)) r e)
-over-page (x ∷ xs) (y ∷ d) r e = rw (reach-suc (length xs) (length d) r e) (ap (λ (l : List ℕ). x ∷ l) (over-page xs d (reached 0 (length xs) (length d)) refl))
+over-page (x ∷ xs) (y ∷ d) r e =
+    rw (reach-suc (length xs) (length d) r e) (ap (λ (l : List ℕ). x ∷ l) (over-page xs d (reached 0 (length xs) (length d)) refl))
 
 module _ {xs d : List ℕ} {r : ℕ} {new : List ℕ} where
   pub page-in : Shown xs 0 d r new → r ≤ length new

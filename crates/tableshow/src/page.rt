@@ -1,6 +1,5 @@
 // The parts of a page: the head, a mode, a state, a refusal. A function `.._form` chooses among the forms of a line.
 ghost use mathlib.Core.Path.{_≡_};
-ghost use mathlib.Core.List.{[], _∷_};
 ghost use Prim.Native.Nat.{ℕ};
 ghost use Rattle.refusal.specs.Fixed.{NONE as none};
 ghost use Rattle.refusal.specs.Lists.{pick};
@@ -12,9 +11,9 @@ ghost use Rattle.targets.specs.Targets.{eofTarget};
 ghost use Rattle.tableshow.specs.Shown.{Shown};
 ghost use Rattle.tableshow.specs.Forms.{formed};
 ghost use Rattle.tableshow.specs.Rows.{orElse, runAt};
-ghost use Rattle.tableshow.specs.Page.{part, recordLine, saidLine, acceptText, headText, untilText, rangesLine, runText, runLine, endTarget, endContinuation, restText, stateText, startLine, modeText, tableText, ruleText, reasonText, refusalText};
+ghost use Rattle.tableshow.specs.Page.{part, recordLine, saidLine, acceptText, headText, untilText, rangesLine, runText, runLine, endTarget};
+ghost use Rattle.tableshow.specs.Page.{endContinuation, restText, stateText, startLine, modeText, tableText, ruleText, reasonText, refusalText};
 use crate::forms;
-use crate::rows::number_at;
 use crate::rows::number_of;
 use crate::rows::put_ascii;
 use crate::rows::put_escapes;
@@ -26,6 +25,7 @@ use accepts::Accepted;
 use continuations::Continuation;
 use modes::Start;
 use refusal::NONE;
+use rules::word_at;
 
 fn record_form(flag: u32, actions: u32) -> usize
     ensures { λ r. ⌜ ((k rule : ℕ) → formed r k rule actions ≡ recordLine k rule flag actions) ⌝ }
@@ -182,9 +182,9 @@ fn run_form(run: u32) -> usize
 fn put_run_at(room: &[u32], at: u32, page: &mut [u8], n: usize) -> usize
     ensures { λ r. ⌜ Shown (runLine (now (room .entry)) at) n (now (page .entry)) r (now (page .exit)) ⌝ }
 {
-    let run = number_at(room, at as usize);
-    let first = number_at(room, (at as usize) + 1);
-    let second = number_at(room, (at as usize) + 2);
+    let run = word_at(room, at as usize);
+    let first = word_at(room, (at as usize) + 1);
+    let second = word_at(room, (at as usize) + 2);
     put_form(
         run_form(run),
         run as u64,

@@ -8,9 +8,11 @@ ghost use Rattle.tableshow.specs.Shown.{Shown, joined};
 ghost use Rattle.tableshow.specs.Names.{range, target};
 ghost use Rattle.tableshow.specs.Texts.{escapes-label};
 ghost use Rattle.tableshow.specs.Forms.{formed};
-ghost use Rattle.tableshow.specs.Rows.{gap, after, ending, item, orElse, targetOn, edge, lowAfter, itemsAfter, asciiFrom, asciiText, rangesFrom, rowText, listed, runAt, wideAt, escapesAt, wideRow, firstWith, wideWith, wideText, escapesText};
+ghost use Rattle.tableshow.specs.Rows.{gap, after, ending, item, orElse, targetOn, edge, lowAfter, itemsAfter, asciiFrom, asciiText, rangesFrom};
+ghost use Rattle.tableshow.specs.Rows.{rowText, listed, runAt, wideAt, escapesAt, wideRow, firstWith, wideWith, wideText, escapesText};
 use crate::forms;
 use crate::text::put_form;
+use rules::word_at;
 use targets::Target;
 
 // A range behind what parts it from the one before: `items` says how many stand on the line.
@@ -157,16 +159,6 @@ pub(crate) fn put_ascii(room: &[u32], state: u16, page: &mut [u8], n: usize) -> 
     put_edges(room, state, 128, page, m)
 }
 
-// A number of the room.
-pub(crate) fn number_at(room: &[u32], at: usize) -> u32
-    ensures { λ r. ⌜ r ≡ getD (now (room .entry)) at 0 ⌝ }
-{
-    if at < room.len() {
-        return room[at];
-    }
-    0
-}
-
 // So many ranges behind the number at `at`.
 fn put_ranges(kind: u32, room: &[u32], count: u32, at: usize, page: &mut [u8], n: usize) -> usize
     requires { ⌜ at < 2 ^ 40 ⌝ }
@@ -177,9 +169,9 @@ fn put_ranges(kind: u32, room: &[u32], count: u32, at: usize, page: &mut [u8], n
     let mut items = 0u32;
     let mut m = n;
     while 0 < left {
-        let low = number_at(room, here);
-        let high = number_at(room, here + 1);
-        let to = number_at(room, here + 2);
+        let low = word_at(room, here);
+        let high = word_at(room, here + 1);
+        let to = word_at(room, here + 2);
         m = put_item(items, low, high, kind, to, page, m);
         items = after(items);
         here += 3;
@@ -193,7 +185,7 @@ fn put_row(label: usize, kind: u32, room: &[u32], at: usize, page: &mut [u8], n:
     requires { ⌜ at < 2 ^ 40 ⌝ }
     ensures { λ r. ⌜ Shown (rowText (formed label 0 0 0) kind (now (room .entry)) at) n (now (page .entry)) r (now (page .exit)) ⌝ }
 {
-    let count = number_at(room, at);
+    let count = word_at(room, at);
     if count == 0 {
         return n;
     }
@@ -206,49 +198,49 @@ fn listed(room: &[u32], words: u32, runs: u32, wides: u32, accepts: u32, i: u32)
     ensures { λ r. ⌜ r ≡ listed (now (room .entry)) words runs wides accepts i ⌝ }
 {
     let before = 9 + (words as usize) + (runs as usize) + (wides as usize) + (accepts as usize);
-    number_at(room, before + (i as usize))
+    word_at(room, before + (i as usize))
 }
 
 fn count_at(room: &[u32], at: u32) -> u32
     ensures { λ r. ⌜ r ≡ getD (now (room .entry)) at 0 ⌝ }
 {
-    number_at(room, at as usize)
+    word_at(room, at as usize)
 }
 
 // Where a run stands, a wide row, and a state's escapes.
 pub(crate) fn run_at(room: &[u32], state: u16) -> u32
     ensures { λ r. ⌜ r ≡ runAt (now (room .entry)) state ⌝ }
 {
-    listed(room, number_at(room, 0), 0, 0, 0, state as u32)
+    listed(room, word_at(room, 0), 0, 0, 0, state as u32)
 }
 
 fn wide_at(room: &[u32], row: u32) -> u32
     ensures { λ r. ⌜ r ≡ wideAt (now (room .entry)) row ⌝ }
 {
-    let runs = count_at(room, number_at(room, 3));
-    listed(room, number_at(room, 0), runs, 0, 0, row)
+    let runs = count_at(room, word_at(room, 3));
+    listed(room, word_at(room, 0), runs, 0, 0, row)
 }
 
 fn escapes_at(room: &[u32], state: u16) -> u32
     ensures { λ r. ⌜ r ≡ escapesAt (now (room .entry)) state ⌝ }
 {
-    let runs = count_at(room, number_at(room, 3));
-    let wides = count_at(room, number_at(room, 5));
-    let accepts = count_at(room, number_at(room, 6));
-    listed(room, number_at(room, 0), runs, wides, accepts, state as u32)
+    let runs = count_at(room, word_at(room, 3));
+    let wides = count_at(room, word_at(room, 5));
+    let accepts = count_at(room, word_at(room, 6));
+    listed(room, word_at(room, 0), runs, wides, accepts, state as u32)
 }
 
 fn wide_row_from(room: &[u32], states: u32, state: u16) -> u32
     ensures { λ r. ⌜ r ≡ getD (now (room .entry)) (states + state * 4 + 2) 0 ⌝ }
 {
-    number_at(room, (states as usize) + (state as usize) * 4 + 2)
+    word_at(room, (states as usize) + (state as usize) * 4 + 2)
 }
 
 // The number of a state's wide row.
 fn wide_row(room: &[u32], state: u16) -> u32
     ensures { λ r. ⌜ r ≡ wideRow (now (room .entry)) state ⌝ }
 {
-    wide_row_from(room, number_at(room, 2), state)
+    wide_row_from(room, word_at(room, 2), state)
 }
 
 // The first state that has a wide row, of those before `state`; or that one.
