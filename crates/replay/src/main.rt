@@ -20,7 +20,8 @@ use replay_io::read;
 use replay_io::tally;
 use replay_io::tally::Replayed;
 
-// The record at the front of what is left. One of no kind is longer than any sample. A new kind gets an arm here, a line in `print_kinds` and two counts in `report`.
+// The record at the front of what is left. One of no kind is longer than any sample. A new kind gets an arm here, a line in `print_kinds` and two
+// counts in `report`.
 fn replay_record(rest: &[u8]) -> Replayed {
     match read::byte(rest, 0) {
         1 => runs::replay_classify(rest),

@@ -1,6 +1,8 @@
-// Replays a sample of rows of four wide ranges, with where the Rust original leads on a symbol, through the search over range records; and runs the calls that are walked by
+// Replays a sample of rows of four wide ranges, with where the Rust original leads on a symbol, through the search over range records; and runs the
+// calls that are walked by
 // hand on what the original has no answer for: a row that does not ascend, and the opening of lists of words.
-// The sample comes from standard input, as the binary `record` of rust/compare writes it: at most 65,535 bytes, records of 46 bytes, numbers with the least byte first:
+// The sample comes from standard input, as the binary `record` of rust/compare writes it: at most 65,535 bytes, records of 46 bytes, numbers with the
+// least byte first:
 //
 //     four ranges: low u32, high u32, target u16; symbol u32; the original's target u16
 //

@@ -1,21 +1,16 @@
 -- The laws of the line: its parts, one behind the other. Assumes nothing.
-use Prim.Native.Nat.{ℕ, zero, suc, _+_, _*_, _-_, _/_, _%_, _^_, _<_, _≤_}
-use native.Mathlib.Nat.{pow-suc, one-le-pow, pow-le-pow-right, zero-lt-suc}
-use native.Mathlib.Numerals.{add-one, sub-one}
+use Prim.Native.Nat.{ℕ, _+_, _*_, _<_, _≤_}
+use native.Mathlib.Numerals.{add-one}
 use native.Mathlib.Omega.{arith}
-use mathlib.Core.Path.{_≡_, refl, ap, _∙_}
-use mathlib.Core.Bool.{Bool, true, false}
+use mathlib.Core.Path.{_≡_, ap}
 use mathlib.Core.List.{List, [], _∷_, _++_}
 use mir.Syntax.{w64}
 use mir.Val.{Fits}
 use borrow.Author.Needs.{needs}
-use borrow.Author.Tests.{lt-ltb, le-ltb, ltb-true, ltb-false}
-use lib.Dec.{ltb}
 use lib.ListN.{length, getD, take, drop, set, length-append, length-set, drop-of-length-le}
 use lib.Seq.{drop-cons}
 use Rattle.io.specs.Digits.{digits, Fewest}
 use Rattle.refusal.specs.declared.Refusal.{Refusal}
-use Rattle.refusal.specs.Lists.{pick}
 use Rattle.written.specs.Over.{Put}
 use Rattle.written.proofs.Going.{Going, going-start, going-done, going-room, going-turn, going-place, going-put, put-one, put-size-1}
 use Rattle.room.specs.Room.{each}
@@ -63,11 +58,13 @@ module _ (x n : ℕ) (d : List ℕ) where
 
   module _ (k : ℕ) (ds : List ℕ) where
     -- they are the number in decimal, and stand behind the space
-    pub number-room : take k ds ≡ digits 10 k x → Fewest 10 1 x k → Fits w64 x → n + length (spaced x) ≤ length d → n + 1 + length (take k ds) ≤ length (set d n 32)
+    pub number-room : take k ds ≡ digits 10 k x → Fewest 10 1 x k → Fits w64 x → n + length (spaced x) ≤ length d →
+        n + 1 + length (take k ds) ≤ length (set d n 32)
     unfolding spaced
     number-room e w h f = let i : length (take k ds) ≡ length (decimal 20 x) = ap length (found x k ds e w h) in omega (arith, length-set d n 32)
 
-    pub number-put : {r : ℕ} {new : List ℕ} → Put (take k ds) (n + 1) (set d n 32) r new → take k ds ≡ digits 10 k x → Fewest 10 1 x k → Fits w64 x → n + length (spaced x) ≤ length d → Put (spaced x) n d r new
+    pub number-put : {r : ℕ} {new : List ℕ} → Put (take k ds) (n + 1) (set d n 32) r new → take k ds ≡ digits 10 k x → Fewest 10 1 x k →
+        Fits w64 x → n + length (spaced x) ≤ length d → Put (spaced x) n d r new
     unfolding spaced
     number-put p e w h f = put-one 32 (decimal 20 x) n d (rw (found x k ds e w h) at p) (omega arith)
 
@@ -90,7 +87,8 @@ module _ (ys : List ℕ) (i : ℕ) {xs : List ℕ} {n : ℕ} {old : List ℕ} {m
   pub numbers-room : i < length ys → Going xs n old (each spaced (drop i ys)) m out → m + length (spaced (getD ys i 0)) ≤ length out
   numbers-room h g = going-room xs n old (each spaced (drop (i + 1) ys)) m out (spaced (getD ys i 0)) (rw (numbers-open ys i h) at g)
 
-  pub numbers-turn : {r : ℕ} {new : List ℕ} → i < length ys → Put (spaced (getD ys i 0)) m out r new → Going xs n old (each spaced (drop i ys)) m out → Going xs n old (each spaced (drop (i + 1) ys)) r new
+  pub numbers-turn : {r : ℕ} {new : List ℕ} → i < length ys → Put (spaced (getD ys i 0)) m out r new →
+      Going xs n old (each spaced (drop i ys)) m out → Going xs n old (each spaced (drop (i + 1) ys)) r new
   numbers-turn h p g = going-turn xs n old (each spaced (drop (i + 1) ys)) m out (spaced (getD ys i 0)) p (rw (numbers-open ys i h) at g)
 
   pub numbers-done : length ys ≤ i → Going xs n old (each spaced (drop i ys)) m out → Put xs n old m out
@@ -126,7 +124,8 @@ module _ (w xs d : List ℕ) where
       pub end-room : Put w 0 d r d₁ → Put (each spaced xs) r d₁ q d₂ → Room → q + 1 ≤ length d₂
       end-room p t h = going-room (lineWith w xs) 0 d [] q d₂ (10 ∷ []) (at-end p t h)
 
-      pub line-put : {e : ℕ} {d₃ : List ℕ} → Put w 0 d r d₁ → Put (each spaced xs) r d₁ q d₂ → Put (10 ∷ []) q d₂ e d₃ → Room → Put (lineWith w xs) 0 d e d₃
+      pub line-put : {e : ℕ} {d₃ : List ℕ} → Put w 0 d r d₁ → Put (each spaced xs) r d₁ q d₂ → Put (10 ∷ []) q d₂ e d₃ → Room →
+          Put (lineWith w xs) 0 d e d₃
       line-put p t l h = going-done (lineWith w xs) 0 d (going-turn (lineWith w xs) 0 d [] q d₂ (10 ∷ []) l (at-end p t h))
 
 -- what the writing of a line is left with
@@ -148,11 +147,13 @@ module _ (d : List ℕ) where
 
 -- what was put is the line of the answer
 module _ {k : ℕ} {d new : List ℕ} where
-  pub ok-line : {answer : Decoded} {m s w : ℕ} → Put (lineWith (111 ∷ 107 ∷ []) (m ∷ s ∷ w ∷ [])) 0 d k new → answer ≡ Table m s w → length d ≡ 66 → take k new ≡ lineOf (said answer)
+  pub ok-line : {answer : Decoded} {m s w : ℕ} → Put (lineWith (111 ∷ 107 ∷ []) (m ∷ s ∷ w ∷ [])) 0 d k new → answer ≡ Table m s w →
+      length d ≡ 66 → take k new ≡ lineOf (said answer)
   unfolding lineOf
   ok-line {m = m} {s} {w} p e l = rw e (front p (ok-fits d m s w l))
 
-  pub no-line : {answer : Decoded} {r : Refusal} → Put (lineWith (110 ∷ 111 ∷ []) (r .number ∷ r .place ∷ [])) 0 d k new → answer ≡ Refused r → length d ≡ 66 → take k new ≡ lineOf (said answer)
+  pub no-line : {answer : Decoded} {r : Refusal} → Put (lineWith (110 ∷ 111 ∷ []) (r .number ∷ r .place ∷ [])) 0 d k new → answer ≡ Refused r →
+      length d ≡ 66 → take k new ≡ lineOf (said answer)
   unfolding lineOf
   no-line {r = r} p e l = rw e (front p (no-fits d (r .number) (r .place) l))
 
