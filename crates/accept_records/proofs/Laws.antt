@@ -1,5 +1,5 @@
 -- The laws of the accepts' records: where a record lies that is found. Assumes nothing.
-use Prim.Native.Nat.{ℕ, _+_, _*_, _^_, _<_, _≤_}
+use Prim.Native.Nat.{ℕ, _+_, _*_, _^_, _<_}
 use native.Mathlib.Omega.{arith}
 use mathlib.Core.Path.{_≡_, refl, sym, _∙_}
 use mathlib.Core.List.{List}
@@ -11,35 +11,10 @@ use borrow.Author.Needs.{needs}
 use borrow.Author.Tests.{lt-ltb, le-ltb, ltb-true}
 use Rattle.room_read.specs.declared.Found.{Found}
 use Rattle.room_read.specs.declared.Found.the-variants.{At, Absent, Outside}
-use Rattle.room_read.specs.Room.{follow}
-use Rattle.room_read.proofs.Records.{held, listed-in-room, there, absent, outside}
+use Rattle.room_read.specs.Room.{listedAt, follow}
+use Rattle.room_read.proofs.Records.{held, listed-lies, oflist, there, absent, outside}
 use Rattle.room_read.proofs.Spans.{span-there, span-absent, span-outside}
-use Rattle.accepts.specs.Record.{placeOf, wholeTo, recordAt}
-
--- a record is found only behind a header, in its section, which lies in the room
-pub record Lies (w : List ℕ) (p : ℕ) : Type 0 where
-  pub header : 8 < length w
-  pub before : p < getD w 7 0
-  pub inside : getD w 7 0 ≤ length w
-
-place-lies : (w : List ℕ) (i : ℕ) {p : ℕ} → placeOf w i ≡ At p → Lies w p
-unfolding placeOf
-place-lies w i h =
-    let h₁ = held (ltb 8 (length w)) h in
-    let h₂ = held (ltb (getD w 3 0) (length w)) (h₁ .1) in
-    let h₃ = held (ltb (getD w 5 0) (length w)) (h₂ .1) in
-    let l = listed-in-room w (getD w 6 0) (getD w 7 0) (9 + getD w 0 0 + getD w (getD w 3 0) 0 + getD w (getD w 5 0) 0) i (h₃ .1) in
-    record { header = ltb-true 8 (length w) (h₁ .0); before = l .0; inside = l .1 }
-
-module _ (w : List ℕ) (i : ℕ) {p : ℕ} {got : Found} (g : got ≡ placeOf w i) (e : got ≡ At p) where
-  pub place-end : 7 < length w
-  place-end = let l = place-lies w i (sym g ∙ e) in omega arith
-
-  pub place-before : p < getD w 7 0
-  place-before = place-lies w i (sym g ∙ e) .before
-
-  pub place-inside : getD w 7 0 ≤ length w
-  place-inside = place-lies w i (sym g ∙ e) .inside
+use Rattle.accepts.specs.Record.{wholeTo, recordAt}
 
 -- one more test was passed
 followed : (x : Found) (k : ℕ → Found) {p : ℕ} → follow x k Absent Outside ≡ At p → (q : ℕ) × (x ≡ At q) × (k q ≡ At p)
@@ -52,9 +27,9 @@ followed Outside k h = let z : _≡_ {A = ℕ} 0 1 = cc in absurd (omega arith)
 pub whole : (w : List ℕ) (i : ℕ) {p : ℕ} → recordAt w i ≡ At p → getD w (p + 2) 0 * 3 + (p + 2) < length w
 unfolding recordAt wholeTo
 whole w i {p} h =
-    let f = followed (placeOf w i) (wholeTo w (getD w 7 0)) h in
+    let f = followed (listedAt w 6 i) (wholeTo w (getD w 7 0)) h in
     let q = f .0 in
-    let l = place-lies w i (f .1) in
+    let l = listed-lies w 6 i (f .1) in
     let h₁ = held (ltb (q + 2) (getD w 7 0)) (f .2) in
     let h₂ = held (ltb (getD w (q + 2) 0 * 3 + (q + 2)) (getD w 7 0)) (h₁ .1) in
     let e : q ≡ p = cc in
@@ -78,4 +53,4 @@ module _ (w : List ℕ) (i : ℕ) {p : ℕ} {got : Found} (g : got ≡ recordAt 
 pub ruleset cases = (needs, lt-ltb, le-ltb)
 
 -- by what is found
-pub ruleset chain = (needs, there, absent, outside, place-end, place-before, place-inside, record-first, record-number, record-index, record-bytes, span-there, span-absent, span-outside)
+pub ruleset chain = (needs, oflist, there, absent, outside, record-first, record-number, record-index, record-bytes, span-there, span-absent, span-outside)

@@ -2,62 +2,12 @@
 ghost use mathlib.Core.Path.{_≡_};
 ghost use Prim.Native.Nat.{_+_, _*_, _<_, _≤_};
 ghost use lib.ListN.{length};
-ghost use Rattle.room_read.specs.Room.{listedIn};
 ghost use Rattle.accepts.specs.Record as recorded;
 use accepts::AcceptRecord;
+use room_read::ACCEPTS;
+use room_read::ESCAPE_ROWS;
 use room_read::Found;
 use room_read::Span;
-
-fn place_from(
-    room: &[u32],
-    words: u32,
-    runs: u32,
-    wides: u32,
-    start: u32,
-    end: u32,
-    i: u32,
-) -> Found
-    ensures { λ r. ⌜ r ≡ listedIn (now (room .entry)) start end (9 + words + runs + wides) i ⌝ }
-{
-    let list = 9 + (words as usize) + (runs as usize) + (wides as usize);
-    room_lists::listed_in(room, start, end as usize, list, i)
-}
-
-fn place_past(
-    room: &[u32],
-    words: u32,
-    runs: u32,
-    wides: u32,
-    start: u32,
-    end: u32,
-    i: u32,
-) -> Found
-    ensures { λ r. ⌜ r ≡ recorded.placePast (now (room .entry)) words runs wides start end i ⌝ }
-{
-    if (runs as usize) < room.len() {
-        if (wides as usize) < room.len() {
-            return place_from(
-                room,
-                words,
-                room[runs as usize],
-                room[wides as usize],
-                start,
-                end,
-                i,
-            );
-        }
-    }
-    Found::Outside
-}
-
-fn place(room: &[u32], i: u32) -> Found
-    ensures { λ r. ⌜ r ≡ recorded.placeOf (now (room .entry)) i ⌝ }
-{
-    if 8 < room.len() {
-        return place_past(room, room[0], room[3], room[5], room[6], room[7], i);
-    }
-    Found::Outside
-}
 
 fn whole_with(end: u32, at: usize, count: u32) -> Found
     requires { ⌜ at < end ⌝ }
@@ -84,8 +34,8 @@ fn whole_to(room: &[u32], end: u32, at: usize) -> Found
 fn find_record(room: &[u32], i: u32) -> Found
     ensures { λ r. ⌜ r ≡ recorded.recordAt (now (room .entry)) i ⌝ }
 {
-    match place(room, i) {
-        Found::At(p) => whole_to(room, room[7], p),
+    match room_lists::find_listed(room, ACCEPTS, i) {
+        Found::At(p) => whole_to(room, room[ESCAPE_ROWS], p),
         Found::Absent => Found::Absent,
         Found::Outside => Found::Outside,
     }

@@ -4,13 +4,14 @@ use Prim.Native.Nat.{ℕ, _+_, _*_}
 use mathlib.Core.Bool.{not}
 use mathlib.Core.List.{List, [], _∷_}
 use lib.Dec.{ltb, eqb}
-use lib.ListN.{length, getD}
+use lib.ListN.{getD}
 use Rattle.refusal.specs.Said.{Said, ok, no, NOT-TABLE}
 use Rattle.refusal.specs.Lists.{pick}
 use Rattle.room_read.specs.declared.Found.{Found}
 use Rattle.room_read.specs.declared.Found.the-variants.{At, Absent, Outside}
 use Rattle.room_read.specs.declared.Span.{Span}
-use Rattle.room_read.specs.Room.{listedIn, follow}
+use Rattle.room_read.specs.Header.{ACCEPTS}
+use Rattle.room_read.specs.Room.{endOf, listedAt, follow}
 use Rattle.accepts.specs.declared.AcceptRecord.{AcceptRecord}
 use Rattle.accepts.specs.declared.AcceptRecord.the-variants.{Record, NoRecord, NotTable}
 
@@ -20,14 +21,6 @@ said (Record rule flag actions) = ok (rule ∷ pick flag 1 0 ∷ actions ∷ [])
 said NoRecord = ok []
 said NotTable = no NOT-TABLE 0
 
--- the places of the accepts stand behind the words and the places of the runs and of the wide rows
-abbrev pub placePast : List ℕ → ℕ → ℕ → ℕ → ℕ → ℕ → ℕ → Found
-placePast w words runs wides s e i =
-    pick (ltb runs (length w)) (pick (ltb wides (length w)) (listedIn w s e (9 + words + getD w runs 0 + getD w wides 0) i) Outside) Outside
-
-unfoldable pub placeOf : List ℕ → ℕ → Found
-placeOf w i = pick (ltb 8 (length w)) (placePast w (getD w 0 0) (getD w 3 0) (getD w 5 0) (getD w 6 0) (getD w 7 0) i) Outside
-
 -- "rule, consumed-EOF flag, action count, actions of three words": the record of n actions at p lies in its section, whole
 abbrev pub wholeWith : ℕ → ℕ → ℕ → Found
 wholeWith e p n = pick (ltb (n * 3 + (p + 2)) e) (At p) Outside
@@ -36,7 +29,7 @@ unfoldable pub wholeTo : List ℕ → ℕ → ℕ → Found
 wholeTo w e p = pick (ltb (p + 2) e) (wholeWith e p (getD w (p + 2) 0)) Outside
 
 unfoldable pub recordAt : List ℕ → ℕ → Found
-recordAt w i = follow (placeOf w i) (wholeTo w (getD w 7 0)) Absent Outside
+recordAt w i = follow (listedAt w ACCEPTS i) (wholeTo w (endOf w ACCEPTS)) Absent Outside
 
 -- "A flag is any word; nonzero means set."
 abbrev pub recordOf : List ℕ → ℕ → Said

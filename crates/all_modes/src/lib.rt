@@ -6,6 +6,9 @@ ghost use Rattle.refusal.specs.Lists.{every};
 ghost use Rattle.modes.specs.Modes.{numbers, upTo, modesWith, modesIn, modesUpTo};
 use modes::Modes;
 use refusal::NONE;
+use room_read::CONTINUATIONS;
+use room_read::MODES;
+use room_read::STATES;
 
 fn up_to(limit: u32, x: u32) -> bool
     ensures { λ r. ⌜ r ≡ upTo limit x ⌝ }
@@ -58,8 +61,8 @@ fn modes_in(room: &[u32], start: u32, end: u32, limit: u32) -> Modes
 pub fn find_modes(room: &[u32], limit: u32) -> Modes
     ensures { λ r. ⌜ r ≡ modesUpTo (now (room .entry)) limit ⌝ }
 {
-    if 8 < room.len() {
-        return modes_in(room, room[1], room[2], limit);
+    if CONTINUATIONS < room.len() {
+        return modes_in(room, room[MODES], room[STATES], limit);
     }
     Modes::Outside
 }

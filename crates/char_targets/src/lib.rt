@@ -1,6 +1,7 @@
 // Where a state goes on a character, and at the end of the input. The room may be of any length and hold any numbers.
 ghost use mathlib.Core.Path.{_≡_};
 ghost use Rattle.targets.specs.Targets.{said, target, eofTarget, searchTarget, wideTarget, wideOf, charTarget};
+use room_read::ACCEPTS;
 use room_read::Found;
 use room_read::Hit;
 use targets::Target;
@@ -41,7 +42,7 @@ fn wide_target(room: &[u32], row: u32, symbol: u32) -> Target
     ensures { λ r. ⌜ said r ≡ wideTarget (now (room .entry)) row symbol ⌝ }
 {
     match wide_rows::find_wide_row(room, row) {
-        Found::At(p) => search_target(room, p, room[6], symbol),
+        Found::At(p) => search_target(room, p, room[ACCEPTS], symbol),
         Found::Absent => Target::NotTable,
         Found::Outside => Target::NotTable,
     }

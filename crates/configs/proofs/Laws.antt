@@ -13,13 +13,13 @@ use borrow.Author.Tests.{le-leb, lt-leb, lt-ltb, le-ltb, ltb-true, leb-true}
 use Rattle.refusal.specs.Said.{Said, ok, no}
 use Rattle.room_read.specs.declared.Found.{Found}
 use Rattle.room_read.specs.declared.Found.the-variants.{At, Absent, Outside}
-use Rattle.room_read.specs.Room.{follow}
-use Rattle.room_read.proofs.Records.{held, listed-in-room, there, absent, outside}
+use Rattle.room_read.specs.Room.{listedAt, follow}
+use Rattle.room_read.proofs.Records.{held, listed-lies, oflist, there, absent, outside}
 use Rattle.configs.specs.declared.Whole.{Whole}
 use Rattle.configs.specs.declared.Whole.the-variants as whole
 use Rattle.configs.specs.declared.ContinuationRecord.{ContinuationRecord}
 use Rattle.configs.specs.declared.ContinuationRecord.the-variants.{Record, NoRecord, NotTable}
-use Rattle.configs.specs.Configs.{said, wholeSaid, placeOf, pastContexts, pastConfig, pastConfigs, wholeBehind, wholeFrom, wholeAt}
+use Rattle.configs.specs.Configs.{said, wholeSaid, pastContexts, pastConfig, pastConfigs, wholeBehind, wholeFrom, wholeAt}
 
 -- by the tests on the way
 pub ruleset cases = (needs, le-leb, lt-leb, lt-ltb, le-ltb)
@@ -100,29 +100,6 @@ contexts-end e p n {q} h =
 pub contexts-before : (e p n : ℕ) {q : ℕ} {got : Found} → got ≡ pastContexts e p n → got ≡ At q → q < e
 contexts-before e p n g k = contexts-end e p n (sym g ∙ k) .1
 
--- a record starts in its section, which lies in the room
-place-lies : (w : List ℕ) (i : ℕ) {p : ℕ} → placeOf w i ≡ At p → (8 < length w) × (p < 9 + getD w 0 0) × (9 + getD w 0 0 ≤ length w)
-unfolding placeOf
-place-lies w i h =
-    let h₁ = held (ltb 8 (length w)) h in
-    let h₂ = held (ltb (getD w 3 0) (length w)) (h₁ .1) in
-    let h₃ = held (ltb (getD w 5 0) (length w)) (h₂ .1) in
-    let h₄ = held (ltb (getD w 6 0) (length w)) (h₃ .1) in
-    let h₅ = held (ltb (getD w 7 0) (length w)) (h₄ .1) in
-    let list = 9 + getD w 0 0 + getD w (getD w 3 0) 0 + getD w (getD w 5 0) 0 + getD w (getD w 6 0) 0 + getD w (getD w 7 0) 0 in
-    let l = listed-in-room w (getD w 8 0) (9 + getD w 0 0) list i (h₅ .1) in
-    (ltb-true 8 (length w) (h₁ .0), l .0, l .1)
-
-module _ (w : List ℕ) (i : ℕ) {p : ℕ} {got : Found} (g : got ≡ placeOf w i) (k : got ≡ At p) where
-  pub place-header : 0 < length w
-  place-header = let l = place-lies w i (sym g ∙ k) .0 in omega arith
-
-  pub place-before : p < 9 + getD w 0 0
-  place-before = place-lies w i (sym g ∙ k) .1
-
-  pub place-inside : 9 + getD w 0 0 ≤ length w
-  place-inside = place-lies w i (sym g ∙ k) .2
-
 -- its parts follow each other in the room
 pub record Lies (w : List ℕ) (p q z : ℕ) : Type 0 where
   pub contexts : p + 1 ≤ q
@@ -134,10 +111,10 @@ unfolding wholeAt wholeFrom wholeBehind
 lies w i {p} {q} {z} h =
     let e = 9 + getD w 0 0 in
     let t : Whole = whole.Spans p q z in
-    let a = onward (placeOf w i) (wholeFrom w e) whole.Absent whole.Outside t no-absent no-span h in
+    let a = onward (listedAt w 8 i) (wholeFrom w e) whole.Absent whole.Outside t no-absent no-span h in
     let b = onward (pastContexts e (a .0) (getD w (a .0) 0)) (wholeBehind w e (a .0)) whole.Outside whole.Outside t no-span no-span (a .2) in
     let c = onward (pastConfigs w e (getD w (b .0) 0) (b .0 + 1)) (whole.Spans (a .0) (b .0)) whole.Outside whole.Outside t no-span no-span (b .2) in
-    let l = place-lies w i (a .1) in
+    let l = listed-lies w 8 i (a .1) in
     let m = contexts-end e (a .0) (getD w (a .0) 0) (b .1) in
     let n = configs-end w e (getD w (b .0) 0) (b .0 + 1) (c .1) (omega arith) in
     let s : whole.Spans (a .0) (b .0) (c .0) ≡ whole.Spans p q z = c .2 in
@@ -146,7 +123,7 @@ lies w i {p} {q} {z} h =
     let p₃ : c .0 ≡ z = cc in
     record { contexts = omega arith; configs = omega arith; inside = omega arith }
 
-pub ruleset finding = (needs, there, absent, outside, contexts-before, place-header, place-before, place-inside)
+pub ruleset finding = (needs, there, absent, outside, contexts-before, oflist)
 
 -- `said` takes no two answers to one: what it says gives the answer back
 abbrev listBack : List ℕ → ContinuationRecord

@@ -3,13 +3,14 @@
 use Prim.Native.Nat.{ℕ, zero, suc, _+_, _*_, _-_}
 use mathlib.Core.List.{List, [], _∷_}
 use lib.Dec.{ltb, leb}
-use lib.ListN.{length, getD}
+use lib.ListN.{getD}
 use Rattle.refusal.specs.Said.{Said, ok, no, NOT-TABLE}
 use Rattle.refusal.specs.Lists.{pick}
 use Rattle.room_read.specs.declared.Found.{Found}
 use Rattle.room_read.specs.declared.Found.the-variants.{At, Absent, Outside}
 use Rattle.room_read.specs.declared.Span.{Span}
-use Rattle.room_read.specs.Room.{listedIn, follow}
+use Rattle.room_read.specs.Header.{CONTINUATIONS}
+use Rattle.room_read.specs.Room.{endOf, listedAt, follow}
 use Rattle.configs.specs.declared.Whole.{Whole}
 use Rattle.configs.specs.declared.Whole.the-variants as whole
 use Rattle.configs.specs.declared.ContinuationRecord.{ContinuationRecord}
@@ -26,16 +27,6 @@ abbrev pub wholeSaid : Whole → Said
 wholeSaid (whole.Spans p q z) = ok (p ∷ q ∷ z ∷ [])
 wholeSaid whole.Absent = ok []
 wholeSaid whole.Outside = no NOT-TABLE 0
-
--- the places of the continuations stand behind the words and the places of the runs, the wide rows, the accepts and the escape rows; the last section ends with the words
-abbrev pub placePast : List ℕ → ℕ → ℕ → ℕ → ℕ → ℕ → ℕ → ℕ → Found
-placePast w words runs wides accepts escapes s i =
-    pick (ltb runs (length w)) (pick (ltb wides (length w)) (pick (ltb accepts (length w)) (pick (ltb escapes (length w))
-    (listedIn w s (9 + words) (9 + words + getD w runs 0 + getD w wides 0 + getD w accepts 0 + getD w escapes 0) i) Outside) Outside) Outside) Outside
-
-unfoldable pub placeOf : List ℕ → ℕ → Found
-placeOf w i =
-    pick (ltb 8 (length w)) (placePast w (getD w 0 0) (getD w 3 0) (getD w 5 0) (getD w 6 0) (getD w 7 0) (getD w 8 0) i) Outside
 
 -- "context count, contexts (kind 0 or 1, two words), config count": where the config count stands behind n contexts
 unfoldable pub pastContexts : ℕ → ℕ → ℕ → Found
@@ -61,7 +52,7 @@ unfoldable pub wholeFrom : List ℕ → ℕ → ℕ → Whole
 wholeFrom w e p = follow (pastContexts e p (getD w p 0)) (wholeBehind w e p) whole.Outside whole.Outside
 
 unfoldable pub wholeAt : List ℕ → ℕ → Whole
-wholeAt w i = follow (placeOf w i) (wholeFrom w (9 + getD w 0 0)) whole.Absent whole.Outside
+wholeAt w i = follow (listedAt w CONTINUATIONS i) (wholeFrom w (endOf w CONTINUATIONS)) whole.Absent whole.Outside
 
 -- go on with the record
 unfoldable pub ofWhole : {A : Type 0} → Whole → (ℕ → ℕ → ℕ → A) → A → A → A

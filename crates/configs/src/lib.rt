@@ -4,9 +4,12 @@
 ghost use mathlib.Core.Path.{_≡_};
 ghost use Prim.Native.Nat.{_+_, _^_, _<_, _≤_};
 ghost use lib.ListN.{length};
-ghost use Rattle.room_read.specs.Room.{listedIn};
-ghost use Rattle.configs.specs.Configs.{placePast, placeOf, pastContexts, pastActions, pastConfig, pastConfigs, wholeBehind, wholeFrom, wholeAt};
+ghost use Rattle.room_read.specs.Header.{HEADER};
+ghost use Rattle.configs.specs.Configs.{pastContexts, pastActions, pastConfig, pastConfigs, wholeBehind, wholeFrom, wholeAt};
+use room_read::CONTINUATIONS;
 use room_read::Found;
+use room_read::HEADER;
+use room_read::WORDS;
 
 // Where the context count and the config count of a record stand, and where it ends.
 pub enum Whole {
@@ -20,74 +23,6 @@ pub enum ContinuationRecord {
     Record { contexts: u32, configs: u32 },
     NoRecord,
     NotTable,
-}
-
-fn place_from(
-    room: &[u32],
-    words: u32,
-    runs: u32,
-    wides: u32,
-    accepts: u32,
-    escapes: u32,
-    start: u32,
-    i: u32,
-) -> Found
-    ensures { λ r. ⌜ r ≡ listedIn (now (room .entry)) start (9 + words) (9 + words + runs + wides + accepts + escapes) i ⌝ }
-{
-    let end = 9 + (words as usize);
-    let list = end + (runs as usize) + (wides as usize) + (accepts as usize) + (escapes as usize);
-    room_lists::listed_in(room, start, end, list, i)
-}
-
-fn place_past(
-    room: &[u32],
-    words: u32,
-    runs: u32,
-    wides: u32,
-    accepts: u32,
-    escapes: u32,
-    start: u32,
-    i: u32,
-) -> Found
-    ensures { λ r. ⌜ r ≡ placePast (now (room .entry)) words runs wides accepts escapes start i ⌝ }
-{
-    if (runs as usize) < room.len() {
-        if (wides as usize) < room.len() {
-            if (accepts as usize) < room.len() {
-                if (escapes as usize) < room.len() {
-                    return place_from(
-                        room,
-                        words,
-                        room[runs as usize],
-                        room[wides as usize],
-                        room[accepts as usize],
-                        room[escapes as usize],
-                        start,
-                        i,
-                    );
-                }
-            }
-        }
-    }
-    Found::Outside
-}
-
-fn place(room: &[u32], i: u32) -> Found
-    ensures { λ r. ⌜ r ≡ placeOf (now (room .entry)) i ⌝ }
-{
-    if 8 < room.len() {
-        return place_past(
-            room,
-            room[0],
-            room[3],
-            room[5],
-            room[6],
-            room[7],
-            room[8],
-            i,
-        );
-    }
-    Found::Outside
 }
 
 fn past_contexts(end: usize, at: usize, count: u32) -> Found
@@ -171,18 +106,18 @@ fn whole_from(room: &[u32], end: usize, at: usize) -> Whole
 }
 
 fn whole_in(room: &[u32], words: u32, at: usize) -> Whole
-    requires { ⌜ (at < 9 + words) × (9 + words ≤ length (now room)) ⌝ }
-    ensures { λ r. ⌜ r ≡ wholeFrom (now (room .entry)) (9 + words) at ⌝ }
+    requires { ⌜ (at < HEADER + words) × (HEADER + words ≤ length (now room)) ⌝ }
+    ensures { λ r. ⌜ r ≡ wholeFrom (now (room .entry)) (HEADER + words) at ⌝ }
 {
-    whole_from(room, 9 + (words as usize), at)
+    whole_from(room, HEADER + (words as usize), at)
 }
 
 // The record with a number, whole.
 pub fn find_whole(room: &[u32], i: u32) -> Whole
     ensures { λ r. ⌜ r ≡ wholeAt (now (room .entry)) i ⌝ }
 {
-    match place(room, i) {
-        Found::At(p) => whole_in(room, room[0], p),
+    match room_lists::find_listed(room, CONTINUATIONS, i) {
+        Found::At(p) => whole_in(room, room[WORDS], p),
         Found::Absent => Whole::Absent,
         Found::Outside => Whole::Outside,
     }

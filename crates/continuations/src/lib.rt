@@ -1,9 +1,9 @@
 // The continuation of an escaped edge: on a character, and at the end of the input. The room may be of any length and hold any numbers.
 ghost use mathlib.Core.Path.{_≡_};
-ghost use Prim.Native.Nat.{_+_};
-ghost use Rattle.room_read.specs.Room.{listedIn};
-ghost use Rattle.continuations.specs.Continuation.{said, rowPast, rowAt, searchRow, charInRow, charContinuation, eofInRow, eofContinuation};
+ghost use Rattle.continuations.specs.Continuation.{said, searchRow, charInRow, charContinuation, eofInRow, eofContinuation};
 use refusal::NONE;
+use room_read::CONTINUATIONS;
+use room_read::ESCAPE_ROWS;
 use room_read::Found;
 use room_read::Hit;
 
@@ -12,71 +12,6 @@ pub enum Continuation {
     Number(u32),
     NoState,
     NotTable,
-}
-
-fn row_from(
-    room: &[u32],
-    words: u32,
-    runs: u32,
-    wides: u32,
-    accepts: u32,
-    start: u32,
-    end: u32,
-    row: u32,
-) -> Found
-    ensures { λ r. ⌜ r ≡ listedIn (now (room .entry)) start end (9 + words + runs + wides + accepts) row ⌝ }
-{
-    let list = 9 + (words as usize) + (runs as usize) + (wides as usize) + (accepts as usize);
-    room_lists::listed_in(room, start, end as usize, list, row)
-}
-
-fn row_past(
-    room: &[u32],
-    words: u32,
-    runs: u32,
-    wides: u32,
-    accepts: u32,
-    start: u32,
-    end: u32,
-    row: u32,
-) -> Found
-    ensures { λ r. ⌜ r ≡ rowPast (now (room .entry)) words runs wides accepts start end row ⌝ }
-{
-    if (runs as usize) < room.len() {
-        if (wides as usize) < room.len() {
-            if (accepts as usize) < room.len() {
-                return row_from(
-                    room,
-                    words,
-                    room[runs as usize],
-                    room[wides as usize],
-                    room[accepts as usize],
-                    start,
-                    end,
-                    row,
-                );
-            }
-        }
-    }
-    Found::Outside
-}
-
-fn find_row(room: &[u32], row: u32) -> Found
-    ensures { λ r. ⌜ r ≡ rowAt (now (room .entry)) row ⌝ }
-{
-    if 8 < room.len() {
-        return row_past(
-            room,
-            room[0],
-            room[3],
-            room[5],
-            room[6],
-            room[7],
-            room[8],
-            row,
-        );
-    }
-    Found::Outside
 }
 
 // The continuation in the escape row whose length stands at `at`.
@@ -93,8 +28,8 @@ fn search_row(room: &[u32], at: usize, end: u32, symbol: u32) -> Continuation
 fn char_in_row(room: &[u32], row: u32, symbol: u32) -> Continuation
     ensures { λ r. ⌜ said r ≡ charInRow (now (room .entry)) row symbol ⌝ }
 {
-    match find_row(room, row) {
-        Found::At(p) => search_row(room, p + 1, room[8], symbol),
+    match room_lists::find_listed(room, ESCAPE_ROWS, row) {
+        Found::At(p) => search_row(room, p + 1, room[CONTINUATIONS], symbol),
         Found::Absent => Continuation::NotTable,
         Found::Outside => Continuation::NotTable,
     }
@@ -114,7 +49,7 @@ pub fn char_continuation(room: &[u32], state: u16, symbol: u32) -> Continuation
 fn eof_in_row(room: &[u32], row: u32) -> Continuation
     ensures { λ r. ⌜ said r ≡ eofInRow (now (room .entry)) row ⌝ }
 {
-    match find_row(room, row) {
+    match room_lists::find_listed(room, ESCAPE_ROWS, row) {
         Found::At(p) => Continuation::Number(room[p]),
         Found::Absent => Continuation::NotTable,
         Found::Outside => Continuation::NotTable,

@@ -7,7 +7,7 @@ use mathlib.Core.Path.{_≡_, refl, sym, ap, _∙_}
 use mathlib.Core.Bool.{Bool, true, false}
 use mathlib.Core.List.{List, [], _∷_}
 use lib.Dec.{ltb, eqb}
-use lib.ListN.{length, getD}
+use lib.ListN.{getD}
 use mir.Syntax.{w32, w64}
 use mir.Val.{Fits}
 use borrow.Author.Needs.{needs}
@@ -20,13 +20,12 @@ use Rattle.layout.specs.declared.Sections.the-variants as sections
 use Rattle.room_read.specs.declared.Found.{Found}
 use Rattle.room_read.specs.declared.Found.the-variants.{At}
 use Rattle.room_read.specs.Room.{stateAt, ofState}
-use Rattle.room_read.proofs.Records.{held, listed-in-room, there, absent, outside, ofstate}
+use Rattle.room_read.proofs.Records.{there, absent, outside, ofstate, oflist}
 use Rattle.judge.specs.Judge.{isTable, tableIn}
 use Rattle.judge.proofs.Tables.{found-table, unfound-table}
 use Rattle.targets.specs.declared.Target.{Target}
 use Rattle.targets.specs.declared.Target.the-variants.{To}
 use Rattle.targets.specs.Targets as targeting
-use Rattle.targets.specs.Targets.{wideRowAt}
 use Rattle.coverage.specs.declared.Covered.{Covered}
 use Rattle.coverage.specs.declared.Covered.the-variants.{Points, NoState, NotTable}
 use Rattle.coverage.specs.Coverage.{said, notDead, goesOn, count, covered, coverageOf}
@@ -135,21 +134,9 @@ points-done d s x p l m = let e : x ≡ 128 = omega arith in p ∙ ap (count (go
 
 pub ruleset asking = (needs, count-start, points-next, points-few, points-done)
 
--- A wide row that is found lies in the room
+-- A wide row that is found is there
 
-module _ (w : List ℕ) (row : ℕ) {p : ℕ} {got : Found} (g : got ≡ wideRowAt w row) (e : got ≡ At p) where
-  pub row-there : p < length w
-  unfolding wideRowAt
-  row-there =
-      let h₁ = held (ltb 8 (length w)) (sym g ∙ e) in
-      let h₂ = held (ltb (getD w 3 0) (length w)) (h₁ .1) in
-      let l = listed-in-room w (getD w 5 0) (getD w 6 0) (9 + getD w 0 0 + getD w (getD w 3 0) 0) row (h₂ .1) in
-      omega (arith, l .0, l .1)
-
-  pub row-bytes : length w * 4 < 2 ^ 63 → Fits w64 (p * 4)
-  row-bytes l = record { fits = omega (arith, row-there) }
-
-pub ruleset following = (needs, there, absent, outside, row-there, row-bytes)
+pub ruleset following = (needs, there, absent, outside, oflist)
 
 -- All points of a state of a table
 

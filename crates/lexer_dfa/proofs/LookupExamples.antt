@@ -10,19 +10,18 @@ use Rattle.refusal.specs.Lists.{some, every, before}
 use Rattle.ascii_run.specs.Shape.{held}
 use Rattle.ascii_run.specs.Words.{orField, shortRun, readAt}
 use Rattle.ascii_run.specs.Scan.{stops, scanSaid}
-use Rattle.room_read.specs.Room.{recordIn, listedIn, stateAt, follow}
+use Rattle.room_read.specs.Room.{recordIn, listedIn, pastLists, listedAt, stateAt, follow}
 use Rattle.room_read.specs.Search.{found, searched, given}
 use Rattle.modes.specs.Start.{modeAt, modeStart}
 use Rattle.modes.specs.Modes.{stateCount, numbers, modesUpTo, ofModes, hasCompiledModes}
 use Rattle.mode_flags.specs.Written.{wrote, refused}
 use Rattle.mode_flags.specs.Flags.{modeFlags}
 use Rattle.mode_counts.specs.Counts.{compiledOf, differences, descent, countsFor, countsWith, asked, modeStateCounts}
-use Rattle.targets.specs.Targets.{asciiRowAt, rowTarget, wideRowAt, asciiTarget, charTarget, eofTarget}
+use Rattle.targets.specs.Targets.{asciiRowAt, rowTarget, asciiTarget, charTarget, eofTarget}
 use Rattle.accepts.specs.Accept.{acceptOf}
 use Rattle.accepts.specs.Record as accepts
-use Rattle.continuations.specs.Continuation.{rowAt, searchRow, charContinuation, eofContinuation}
+use Rattle.continuations.specs.Continuation.{searchRow, charContinuation, eofContinuation}
 use Rattle.configs.specs.Configs as configs
-use Rattle.run_places.specs.RunPlaces.{runPlace}
 use Rattle.state_run.specs.StateRun.{runIn, runOf, asciiRun, scannedBy}
 
 -- header; tag and modes; states; runs; one ascii row; one wide row; one accept; escape rows; one continuation; places; zeros
@@ -61,7 +60,7 @@ unfolding follow stateAt recordIn rowTarget asciiRowAt
 reached = (refl, refl, refl, refl)
 
 searched-for : (charTarget room 0 65 ≡ ok (0 ∷ [])) × (charTarget room 0 199 ≡ ok (65535 ∷ [])) × (charTarget room 0 200 ≡ ok (1 ∷ [])) × (charTarget room 0 500 ≡ ok (65534 ∷ [])) × (charTarget room 0 NONE ≡ ok (65535 ∷ []))
-unfolding follow stateAt recordIn rowTarget asciiRowAt wideRowAt listedIn given searched found
+unfolding follow stateAt recordIn rowTarget asciiRowAt listedAt pastLists listedIn given searched found
 searched-for = (refl, refl, refl, refl, refl)
 
 ended : (eofTarget room 0 ≡ ok (65535 ∷ [])) × (eofTarget room 1 ≡ ok (1 ∷ []))
@@ -71,29 +70,29 @@ ended = (refl, refl)
 -- accepts
 
 accepted : (acceptOf room 0 ≡ ok (NONE ∷ [])) × (acceptOf room 1 ≡ ok (0 ∷ [])) × (accepts.recordOf room 0 ≡ ok (7 ∷ 1 ∷ 1 ∷ [])) × (accepts.recordOf room NONE ≡ ok [])
-unfolding follow stateAt recordIn accepts.recordAt accepts.placeOf accepts.wholeTo listedIn
+unfolding follow stateAt recordIn accepts.recordAt accepts.wholeTo listedAt pastLists listedIn
 accepted = (refl, refl, refl, refl)
 
 actions : take (accepts.actionsLength room 0) (drop (accepts.actionsFrom room 0) room) ≡ 11 ∷ 12 ∷ 13 ∷ []
-unfolding follow accepts.recordAt accepts.placeOf accepts.wholeTo listedIn
+unfolding follow accepts.recordAt accepts.wholeTo listedAt pastLists listedIn
 actions = refl
 
 -- continuations
 
 continued : (charContinuation room 1 450 ≡ ok (0 ∷ [])) × (charContinuation room 1 501 ≡ ok (NONE ∷ [])) × (eofContinuation room 0 ≡ ok (NONE ∷ [])) × (eofContinuation room 1 ≡ ok (0 ∷ []))
-unfolding follow stateAt recordIn rowAt searchRow listedIn given searched found
+unfolding follow stateAt recordIn searchRow listedAt pastLists listedIn given searched found
 continued = (refl, refl, refl, refl)
 
 recorded : (configs.recordOf room 0 ≡ ok (1 ∷ 1 ∷ [])) × (configs.recordOf room 1 ≡ ok [])
-unfolding follow configs.placeOf configs.wholeAt configs.wholeFrom configs.wholeBehind configs.pastContexts configs.pastConfig configs.pastConfigs configs.ofWhole listedIn
+unfolding follow configs.wholeAt configs.wholeFrom configs.wholeBehind configs.pastContexts configs.pastConfig configs.pastConfigs configs.ofWhole listedAt pastLists listedIn
 recorded = (refl, refl)
 
 kept : (take (configs.contextsLength room 0) (drop (configs.contextsFrom room 0) room) ≡ 0 ∷ 0 ∷ 5 ∷ []) × (take (configs.configsLength room 0) (drop (configs.configsFrom room 0) room) ≡ 1 ∷ NONE ∷ 0 ∷ 1 ∷ 1 ∷ 1 ∷ 21 ∷ 22 ∷ 23 ∷ [])
-unfolding follow configs.placeOf configs.wholeAt configs.wholeFrom configs.wholeBehind configs.pastContexts configs.pastConfig configs.pastConfigs configs.ofWhole listedIn
+unfolding follow configs.wholeAt configs.wholeFrom configs.wholeBehind configs.pastContexts configs.pastConfig configs.pastConfigs configs.ofWhole listedAt pastLists listedIn
 kept = (refl, refl)
 
 -- runs: until 34, which passes a byte of 200
 
 scanned : (scannedBy (asciiRun room 1) (200 ∷ 65 ∷ 34 ∷ []) ≡ ok (2 ∷ 1 ∷ [])) × (scannedBy (asciiRun room 0) (200 ∷ 65 ∷ 34 ∷ []) ≡ ok (3 ∷ 0 ∷ [])) × (scannedBy (asciiRun room 2) [] ≡ no STATE 0)
-unfolding follow stateAt recordIn asciiRun runOf runPlace listedIn runIn readAt shortRun orField held every some before stops scanSaid
+unfolding follow stateAt recordIn asciiRun runOf listedAt pastLists listedIn runIn readAt shortRun orField held every some before stops scanSaid
 scanned = (refl, refl, refl)

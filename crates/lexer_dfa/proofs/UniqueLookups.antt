@@ -6,7 +6,7 @@ use denote.Ref.{RefT}
 use Rattle.room_read.specs.Part.{PartOf}
 use Rattle.room_read.proofs.record_in.Reads as record-in
 use Rattle.room_read.proofs.find_state.Reads as find-state
-use Rattle.room_lists.proofs.listed_in.Reads as listed-in
+use Rattle.room_lists.proofs.find_listed.Reads as find-listed
 use Rattle.row_search.proofs.search_row.Reads as search-row
 use Rattle.modes.proofs.mode_start.Reads as mode-start
 use Rattle.modes.proofs.state_count.Reads as state-count
@@ -56,8 +56,8 @@ find-state-unique κs a x y e f p q = p ∙ sym q
 
 -- room_lists
 
-pub listed-in-unique : Determines listed-in.Learnt
-listed-in-unique κs a x y e f p q = p ∙ sym q
+pub find-listed-unique : Determines find-listed.Learnt
+find-listed-unique κs a x y e f p q = p ∙ sym q
 
 -- row_search
 

@@ -1,6 +1,7 @@
 pub mod Stands
 pub mod Renewed
 pub mod Held
+pub mod Lists
 pub mod Looked
 pub mod RowsLooked
 pub mod ModesLooked

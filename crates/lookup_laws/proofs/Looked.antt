@@ -14,21 +14,23 @@ use Rattle.refusal.specs.Fixed.{NONE}
 use Rattle.refusal.specs.Lists.{pick}
 use Rattle.room_read.specs.declared.Found.the-variants as place
 use Rattle.room_read.specs.declared.Hit.the-variants as hit
+use Rattle.room_read.specs.Header.{ESCAPE-ROWS}
 use Rattle.room_read.specs.Room as rooms
-use Rattle.room_read.specs.Room.{listedIn, stateAt, follow}
+use Rattle.room_read.specs.Room.{listedAt, stateAt, follow}
 use Rattle.room_read.specs.Search.{found, searched, given}
-use Rattle.room_read.proofs.There.{record-there, record-absent, listed-there, state-there, state-absent, row-searched}
-use Rattle.table.specs.Table.{Table, State, Range, Escape, Fields, All, Start, StateFields, AsciiFields, RangeFields, each, counted, modeWords, stateWords, asciiWords, rangeWords, wideWords, escapeWords}
+use Rattle.room_read.proofs.There.{record-there, record-absent, state-there, state-absent, row-searched}
+use Rattle.table.specs.Table.{Table, State, Range, Fields, All, Start, StateFields, AsciiFields, RangeFields, each, counted, modeWords, stateWords, asciiWords, rangeWords, wideWords, escapeWords}
 use Rattle.table.specs.Rules.{Rules, Good, NoneOr, targets, absent, rowOf}
-use Rattle.table.proofs.Codec.{At, on, to, at-head}
+use Rattle.table.proofs.Codec.{At, on, at-head}
 use Rattle.modes.specs.Start.{started, modeAt, modeStart}
 use Rattle.modes.specs.Modes.{stateCount}
 use Rattle.targets.specs.Targets.{target, half, asciiRowAt, rowTarget, wideRowAt, wideTarget, asciiTarget, charTarget, eofTarget}
 use Rattle.accepts.specs.Accept.{acceptOf}
-use Rattle.continuations.specs.Continuation.{rowAt, searchRow, charContinuation, eofContinuation}
+use Rattle.continuations.specs.Continuation.{searchRow, charContinuation, eofContinuation}
 use Rattle.lookup_laws.specs.Looks.{goalAt, ofState, stateOf, startOf, modeStartOf, asciiTargetOf, charTargetOf, escapeOf, charContinuationOf}
-use Rattle.lookup_laws.proofs.Stands.{Within, Section, Listed, counts, opens, inside, recorded, sized, threes, all-of, all-take, all-nth, at-number}
+use Rattle.lookup_laws.proofs.Stands.{Within, counts, opens, inside, recorded, sized, threes, all-of, all-take, all-nth, at-number}
 use Rattle.lookup_laws.proofs.Held.{Held}
+use Rattle.lookup_laws.proofs.Lists.{listed-is, wide-listed, escapes-listed}
 
 -- Rows
 
@@ -77,16 +79,6 @@ module _ (w : List ℕ) (x : ℕ) (f : ℕ → Said) (other : ℕ) (o : Said) wh
       let l : getD w p 0 * 3 + p < e = omega (arith, n, z .ends, threes rangeWords (λ r. refl) rs) in
       let q : p < e = omega (arith, z .ends) in
       rw (row-searched w p e x k q l, n) (found-goal rs (p + 1) (z .post) v (on (length rs ∷ []) (each rangeWords rs ++ z .post) (z .stands)))
-
--- a record that a list of places leads to
-pub listed-is : {A : Type 0} {w : List ℕ} {s e list : ℕ} {f : A → List ℕ} {xs : List A} (z : Section w s e f xs) (l : Listed w s list f xs) (i : ℕ) (d : A) → i < length xs → 0 < length (f (getD xs i d))
-    → (p : ℕ) × (listedIn w s e list i ≡ place.At p) × Within w e p (f (getD xs i d))
-listed-is {w = w} {s} {e} {list} {f} {xs} z l i d h m =
-    let r = recorded z i d h in
-    let p = s + 1 + length (each f (take i xs)) in
-    let q : getD w (list + i) 0 ≡ p = l .leads i h in
-    let c : i < getD w s 0 = omega (arith, counts z) in
-    (p, listed-there w s e (opens z) (inside z) i list c (omega (arith, l .there)) (omega arith) (omega (arith, r .ends)) ∙ ap place.At q, r)
 
 -- a start that its field allows
 start-said : (x : ℕ) → Start x → started x ≡ startOf x
@@ -253,11 +245,7 @@ module _ (t : Table) (h : Fields t) (r : Rules t) (w : List ℕ) (k : Held t w) 
 
   -- the list of places leads to a wide row
   pub wide-row : (row : ℕ) → row < length (t .wide) → (p : ℕ) × (wideRowAt w row ≡ place.At p) × Within w (getD w 6 0) p (wideWords (getD (t .wide) row []))
-  unfolding wideRowAt
-  wide-row row l =
-      let q = listed-is (k .wide) (k .wide-places) row [] l (omega arith) in
-      let a : getD w 3 0 < length w = omega (arith, opens (k .runs), inside (k .runs)) in
-      (q .0, (rw (lt-ltb _ _ (k .long), lt-ltb _ _ a, counts (k .runs)) (q .1)), q .2)
+  wide-row row l = let q = listed-is (k .wide) (k .wide-places) row [] l (omega arith) in (q .0, wide-listed t w k row ∙ q .1, q .2)
 
   wide-target : (row : ℕ) → row < length (t .wide) → (x : ℕ) → wideTarget w row x ≡ ok (goalAt 65535 (getD (t .wide) row []) x ∷ [])
   unfolding follow
@@ -283,14 +271,10 @@ module _ (t : Table) (h : Fields t) (r : Rules t) (w : List ℕ) (k : Held t w) 
   -- Escape rows
 
   -- and to the escape row of a state
-  escape-row : (s : ℕ) → s < length (t .states) → (p : ℕ) × (rowAt w s ≡ place.At p) × Within w (getD w 8 0) p (escapeWords (escapeOf t s))
-  unfolding rowAt
+  escape-row : (s : ℕ) → s < length (t .states) → (p : ℕ) × (listedAt w ESCAPE-ROWS s ≡ place.At p) × Within w (getD w 8 0) p (escapeWords (escapeOf t s))
   escape-row s l =
       let q = listed-is (k .escapes) (k .escape-places) s (record { eof = NONE; ranges = [] }) (omega (arith, r .rule7)) (omega arith) in
-      let a : getD w 3 0 < length w = omega (arith, opens (k .runs), inside (k .runs)) in
-      let b : getD w 5 0 < length w = omega (arith, opens (k .wide), inside (k .wide)) in
-      let c : getD w 6 0 < length w = omega (arith, opens (k .accepts), inside (k .accepts)) in
-      (q .0, (rw (lt-ltb _ _ (k .long), lt-ltb _ _ a, lt-ltb _ _ b, lt-ltb _ _ c, counts (k .runs), counts (k .wide), counts (k .accepts)) (q .1)), q .2)
+      (q .0, escapes-listed t w k s ∙ q .1, q .2)
 
   pub eof-continues : (s : ℕ) → eofContinuation w s ≡ ofState t s (escapeOf t s .eof)
   unfolding follow

@@ -12,7 +12,8 @@ use Rattle.refusal.specs.Said.{ok, no, NOT-TABLE}
 use Rattle.refusal.specs.Lists.{pick}
 use Rattle.room.specs.Room.{flag}
 use Rattle.room_read.specs.declared.Found.the-variants as place
-use Rattle.room_read.specs.Room.{listedIn, follow}
+use Rattle.room_read.specs.Header.{CONTINUATIONS}
+use Rattle.room_read.specs.Room.{wordsEnd, listedAt, follow}
 use Rattle.room_read.proofs.There.{listed-absent}
 use Rattle.accepts.specs.Record as accepts
 use Rattle.configs.specs.Configs as configs
@@ -22,7 +23,7 @@ use Rattle.lookup_laws.specs.Looks.{accept, acceptRecordOf, continuation
 use Rattle.lookup_laws.proofs.Stands.{Within, counts, opens, inside, threes}
 use Rattle.lookup_laws.proofs.Renewed.{acceptKept, configKept, continuationKept}
 use Rattle.lookup_laws.proofs.Held.{Held}
-use Rattle.lookup_laws.proofs.Looked.{listed-is}
+use Rattle.lookup_laws.proofs.Lists.{listed-is, accepts-listed, continuations-listed}
 
 -- a part of the room
 part-is : {w : List ℕ} {p : ℕ} (l post : List ℕ) (n : ℕ) → At w p (l ++ post) → length l ≡ n → part w p n ≡ l
@@ -57,24 +58,11 @@ past-configs w e (x ∷ xs) p post a l =
     rw (lt-ltb _ _ i, n, le-leb _ _ j) (past-configs w e xs (length (x .actions) * 3 + (p + 6)) post c (omega arith) ∙ ap place.At g)
 
 module _ (t : Table) (w : List ℕ) (k : Held t w) where
-  -- the counts that are read to find a list lie in the room
-  runs-in : getD w 3 0 < length w
-  runs-in = omega (arith, opens (k .runs), inside (k .runs))
-
-  wide-in : getD w 5 0 < length w
-  wide-in = omega (arith, opens (k .wide), inside (k .wide))
-
-  accepts-in : getD w 6 0 < length w
-  accepts-in = omega (arith, opens (k .accepts), inside (k .accepts))
-
-  escapes-in : getD w 7 0 < length w
-  escapes-in = omega (arith, opens (k .escapes), inside (k .escapes))
-
   -- Accepts
 
   module _ (i : ℕ) where
     accept-there : i < length (t .accepts) → (p : ℕ) × (accepts.recordAt w i ≡ place.At p) × Within w (getD w 7 0) p (acceptKept (accept t i))
-    unfolding accepts.recordAt accepts.placeOf accepts.wholeTo follow
+    unfolding accepts.recordAt accepts.wholeTo follow
     accept-there l =
         let q = listed-is (k .accepts) (k .accept-places) i (record { rule = 0; consumed = 0; actions = [] }) l (omega arith) in
         let p = q .0 in
@@ -84,14 +72,14 @@ module _ (t : Table) (w : List ℕ) (k : Held t w) where
         let m = threes actionWords (λ y. refl) (x .actions) in
         let a : p + 2 < getD w 7 0 = omega (arith, z .ends) in
         let b : length (x .actions) * 3 + (p + 2) < getD w 7 0 = omega (arith, z .ends, m) in
-        (p, (rw (lt-ltb _ _ (k .long), lt-ltb _ _ runs-in, lt-ltb _ _ wide-in, counts (k .runs), counts (k .wide), q .1, lt-ltb _ _ a, n, lt-ltb _ _ b)), z)
+        (p, (rw (accepts-listed t w k i ∙ q .1, lt-ltb _ _ a, n, lt-ltb _ _ b)), z)
 
     accept-absent : length (t .accepts) ≤ i → accepts.recordAt w i ≡ place.Absent
-    unfolding accepts.recordAt accepts.placeOf follow
+    unfolding accepts.recordAt follow
     accept-absent l =
         let z = k .accepts in
-        let e = listed-absent w (getD w 6 0) (getD w 7 0) (opens z) (inside z) i (9 + getD w 0 0 + length (t .runs) + length (t .wide)) (omega (arith, counts z)) in
-        rw (lt-ltb _ _ (k .long), lt-ltb _ _ runs-in, lt-ltb _ _ wide-in, counts (k .runs), counts (k .wide), e)
+        let e = listed-absent w (getD w 6 0) (getD w 7 0) (opens z) (inside z) i (wordsEnd w + length (t .runs) + length (t .wide)) (omega (arith, counts z)) in
+        rw (accepts-listed t w k i ∙ e)
 
     pub accept-record : accepts.recordOf w i ≡ acceptRecordOf t i
     unfolding follow
@@ -135,11 +123,11 @@ module _ (t : Table) (w : List ℕ) (k : Held t w) where
       abbrev x : Continuation
       x = continuation t i
 
-      listed-there : (p : ℕ) × (listedIn w (getD w 8 0) (9 + getD w 0 0) (9 + getD w 0 0 + length (t .runs) + length (t .wide) + length (t .accepts) + length (t .escapes)) i ≡ place.At p)
-          × Within w (9 + getD w 0 0) p (continuationKept x)
+      listed-there : (p : ℕ) × (listedAt w CONTINUATIONS i ≡ place.At p) × Within w (wordsEnd w) p (continuationKept x)
       listed-there =
-          listed-is (k .continuations) (k .continuation-places) i (record { contexts = []; configs = [] }) l
-          (omega (arith, length-append (counted contextWords (x .contexts)) (counted configKept (x .configs))))
+          let q = listed-is (k .continuations) (k .continuation-places) i (record { contexts = []; configs = [] }) l
+          (omega (arith, length-append (counted contextWords (x .contexts)) (counted configKept (x .configs)))) in
+          (q .0, continuations-listed t w k i ∙ q .1, q .2)
 
       -- where the context count and the config count stand, and where it ends
       abbrev p : ℕ
@@ -171,40 +159,26 @@ module _ (t : Table) (w : List ℕ) (k : Held t w) where
       at-configs : At w (q + 1) (ds ++ post)
       at-configs = on (length (x .configs) ∷ []) (ds ++ post) at-back
 
-      ends : z ≤ 9 + getD w 0 0
+      ends : z ≤ wordsEnd w
       ends = omega (arith, context-numbers, listed-there .2 .ends, length-append (counted contextWords (x .contexts)) (counted configKept (x .configs)))
 
       -- the record is whole
       continuation-there : {A : Type 0} (f : ℕ → ℕ → ℕ → A) (a o : A) → configs.ofWhole (configs.wholeAt w i) f a o ≡ f p q z
-      unfolding configs.wholeAt configs.placeOf configs.wholeFrom configs.wholeBehind configs.pastContexts configs.ofWhole follow
+      unfolding configs.wholeAt configs.wholeFrom configs.wholeBehind configs.pastContexts configs.ofWhole follow
       continuation-there f a o =
-          let e = 9 + getD w 0 0 in
+          let e = wordsEnd w in
           let g : q < e = omega (arith, ends) in
           let c = past-configs w e (x .configs) (q + 1) post at-configs ends in
-          rw (
-            lt-ltb _ _ (k .long),
-            lt-ltb _ _ runs-in,
-            lt-ltb _ _ wide-in,
-            lt-ltb _ _ accepts-in,
-            lt-ltb _ _ escapes-in,
-            counts (k .runs),
-            counts (k .wide),
-            counts (k .accepts),
-            counts (k .escapes),
-            listed-there .1,
-            at-head at-front,
-            lt-ltb _ _ g,
-            at-head at-back,
-            c,
-          )
+          rw (listed-there .1, at-head at-front, lt-ltb _ _ g, at-head at-back, c)
 
     -- or it is not there
     continuation-absent : length (t .continuations) ≤ i → {A : Type 0} (f : ℕ → ℕ → ℕ → A) (a o : A) → configs.ofWhole (configs.wholeAt w i) f a o ≡ a
-    unfolding configs.wholeAt configs.placeOf configs.ofWhole follow
+    unfolding configs.wholeAt configs.ofWhole follow
     continuation-absent l f a o =
         let z = k .continuations in
-        let e = listed-absent w (getD w 8 0) (9 + getD w 0 0) (opens z) (inside z) i (9 + getD w 0 0 + length (t .runs) + length (t .wide) + length (t .accepts) + length (t .escapes)) (omega (arith, counts z)) in
-        rw (lt-ltb _ _ (k .long), lt-ltb _ _ runs-in, lt-ltb _ _ wide-in, lt-ltb _ _ accepts-in, lt-ltb _ _ escapes-in, counts (k .runs), counts (k .wide), counts (k .accepts), counts (k .escapes), e)
+        let list = wordsEnd w + length (t .runs) + length (t .wide) + length (t .accepts) + length (t .escapes) in
+        let e = listed-absent w (getD w CONTINUATIONS 0) (wordsEnd w) (opens z) (inside z) i list (omega (arith, counts z)) in
+        rw (continuations-listed t w k i ∙ e)
 
     pub continuation-record : configs.recordOf w i ≡ continuationRecordOf t i
     continuation-record = go (ltb i (length (t .continuations))) refl

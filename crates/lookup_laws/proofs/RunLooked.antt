@@ -8,7 +8,7 @@ use mathlib.Core.List.{List, [], _∷_, _++_}
 use lib.Dec.{ltb}
 use lib.ListN.{length, getD, take}
 use lib.Seq.{take-append-add}
-use borrow.Author.Tests.{lt-ltb, ltb-true, ltb-false}
+use borrow.Author.Tests.{ltb-true, ltb-false}
 use Rattle.refusal.specs.Said.{STATE}
 use Rattle.refusal.specs.Lists.{pick}
 use Rattle.ascii_run.specs.Shape.{Shape, none, any, until, ranges, Got, run, refused, shape, held}
@@ -26,7 +26,8 @@ use Rattle.table.proofs.Runs.{shape-reads, held-shape}
 use Rattle.lookup_laws.specs.Looks.{asciiRunOf, scanOf, skippedOf}
 use Rattle.lookup_laws.proofs.Stands.{Within, all-nth}
 use Rattle.lookup_laws.proofs.Held.{Held}
-use Rattle.lookup_laws.proofs.Looked.{listed-is, state-at, state-none}
+use Rattle.lookup_laws.proofs.Lists.{listed-is, runs-listed}
+use Rattle.lookup_laws.proofs.Looked.{state-at, state-none}
 
 -- what fits each number fits number i
 numbered-nth : {A : Type 0} (P : ℕ → A → Type 0) (n : ℕ) (xs : List A) (i : ℕ) (d : A) → Numbered P n xs → i < length xs → P (n + i) (getD xs i d)
@@ -67,8 +68,7 @@ module _ (t : Table) (h : Fields t) (r : Rules t) (w : List ℕ) (k : Held t w) 
 
     -- the list of places leads to the run
     run-at : (p : ℕ) × (runPlace w s ≡ place.At p) × Within w (getD w 4 0) p (runWords shaped)
-    unfolding runPlace
-    run-at = let q = listed-is (k .runs) (k .run-places) s none there (run-word shaped) in (q .0, (rw (lt-ltb _ _ (k .long)) (q .1)), q .2)
+    run-at = let q = listed-is (k .runs) (k .run-places) s none there (run-word shaped) in (q .0, runs-listed t w k s ∙ q .1, q .2)
 
     -- rule 4
     classified : shaped ≡ classification s (rowOf t s)

@@ -14,6 +14,7 @@ use Rattle.refusal.specs.Said.{Said, ok, no}
 use Rattle.refusal.specs.Lists.{pick}
 use Rattle.room_read.specs.declared.Found.{Found}
 use Rattle.room_read.specs.declared.Found.the-variants as found
+use Rattle.room_read.specs.Header.{MODES, STATES, CONTINUATIONS}
 use Rattle.room_read.proofs.Records.{held, held-absent, record-in-room, there, absent, outside}
 use Rattle.modes.specs.declared.Modes.{Modes}
 use Rattle.modes.specs.declared.Modes.the-variants.{Starts, Outside}
@@ -35,9 +36,9 @@ pub ruleset cases = (needs, le-leb, lt-leb, lt-ltb, le-ltb, eq-eqb, ne-eqb)
 mode-lies : (w : List ℕ) (m : ℕ) {p : ℕ} → modeAt w m ≡ found.At p → p < length w
 unfolding modeAt
 mode-lies w m {p} h =
-    let s = getD w 1 0 in
-    let e = getD w 2 0 in
-    let h₁ = held (ltb 8 (length w)) h in
+    let s = getD w MODES 0 in
+    let e = getD w STATES 0 in
+    let h₁ = held (ltb CONTINUATIONS (length w)) h in
     let h₂ = held (ltb s e) (h₁ .1) in
     let h₃ = held (leb e (length w)) (h₂ .1) in
     let h₄ = held-absent (ltb m 2147483648) (h₃ .1) in

@@ -4,11 +4,12 @@ use Prim.Native.Nat.{ℕ, zero, suc, _+_}
 use mathlib.Core.Bool.{Bool, _||_}
 use mathlib.Core.List.{List, [], _∷_}
 use lib.Dec.{ltb, leb, eqb}
-use lib.ListN.{length, getD}
+use lib.ListN.{getD}
 use Rattle.refusal.specs.Said.{Said, ok, no, NOT-TABLE}
 use Rattle.refusal.specs.Fixed.{NONE}
 use Rattle.refusal.specs.Lists.{pick, some, every}
-use Rattle.room_read.specs.Room.{spanned}
+use Rattle.room_read.specs.Header.{MODES, STATES, RUNS}
+use Rattle.room_read.specs.Room.{spanned, headed}
 use Rattle.modes.specs.declared.Modes.{Modes}
 use Rattle.modes.specs.declared.Modes.the-variants.{Starts, Outside}
 use Rattle.modes.specs.declared.StateCount.{StateCount}
@@ -27,7 +28,7 @@ abbrev pub countIn : List ℕ → ℕ → ℕ → Said
 countIn w s e = spanned w s e (ok (getD w s 0 ∷ [])) (no NOT-TABLE 0)
 
 unfoldable pub stateCount : List ℕ → Said
-stateCount w = pick (ltb 8 (length w)) (countIn w (getD w 2 0) (getD w 3 0)) (no NOT-TABLE 0)
+stateCount w = headed w (countIn w (getD w STATES 0) (getD w RUNS 0)) (no NOT-TABLE 0)
 
 -- n numbers of the room, from a place on
 unfoldable pub numbers : List ℕ → ℕ → ℕ → List ℕ
@@ -51,7 +52,7 @@ abbrev pub modesIn : List ℕ → ℕ → ℕ → ℕ → Modes
 modesIn w s e limit = spanned w s e (modesWith w s e (getD w s 0) limit) Outside
 
 unfoldable pub modesUpTo : List ℕ → ℕ → Modes
-modesUpTo w limit = pick (ltb 8 (length w)) (modesIn w (getD w 1 0) (getD w 2 0) limit) Outside
+modesUpTo w limit = headed w (modesIn w (getD w MODES 0) (getD w STATES 0) limit) Outside
 
 -- go on with the starts of the modes
 unfoldable pub ofModes : {A : Type 0} → List ℕ → Modes → (List ℕ → A) → A → A

@@ -3,13 +3,14 @@ use Prim.Native.Nat.{ℕ}
 use mathlib.Core.Bool.{Bool}
 use mathlib.Core.List.{List, [], _∷_}
 use lib.Dec.{ltb, leb, eqb}
-use lib.ListN.{length, getD}
+use lib.ListN.{getD}
 use Rattle.refusal.specs.Said.{Said, ok, no, NOT-TABLE}
 use Rattle.refusal.specs.Fixed.{NONE}
 use Rattle.refusal.specs.Lists.{pick}
 use Rattle.room_read.specs.declared.Found.{Found}
 use Rattle.room_read.specs.declared.Found.the-variants.{Absent, Outside}
-use Rattle.room_read.specs.Room.{spanned, recordIn, follow}
+use Rattle.room_read.specs.Header.{MODES, STATES}
+use Rattle.room_read.specs.Room.{spanned, headed, recordIn, follow}
 use Rattle.modes.specs.declared.Start.{Start}
 use Rattle.modes.specs.declared.Start.the-variants.{At, Nowhere, NotTable}
 
@@ -32,7 +33,7 @@ abbrev pub modeIn : List ℕ → ℕ → ℕ → ℕ → Found
 modeIn w s e m = spanned w s e (pick (ltb m 2147483648) (recordIn w s e 1 m) Absent) Outside
 
 unfoldable pub modeAt : List ℕ → ℕ → Found
-modeAt w m = pick (ltb 8 (length w)) (modeIn w (getD w 1 0) (getD w 2 0) m) Outside
+modeAt w m = headed w (modeIn w (getD w MODES 0) (getD w STATES 0) m) Outside
 
 abbrev pub modeStart : List ℕ → ℕ → Said
 modeStart w m = follow (modeAt w m) (λ p. started (getD w p 0)) (ok []) (no NOT-TABLE 0)

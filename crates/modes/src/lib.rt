@@ -4,7 +4,11 @@ ghost use mathlib.Core.Path.{_≡_};
 ghost use Rattle.modes.specs.Start.{said, started, modeIn, modeAt, modeStart};
 ghost use Rattle.modes.specs.Modes.{countSaid, countIn, stateCount};
 use refusal::NONE;
+use room_read::CONTINUATIONS;
 use room_read::Found;
+use room_read::MODES;
+use room_read::RUNS;
+use room_read::STATES;
 
 // A start state, or none; or no table.
 pub enum Start {
@@ -60,8 +64,8 @@ fn mode_in(room: &[u32], start: u32, end: u32, mode: u32) -> Found
 fn find_mode(room: &[u32], mode: u32) -> Found
     ensures { λ r. ⌜ r ≡ modeAt (now (room .entry)) mode ⌝ }
 {
-    if 8 < room.len() {
-        return mode_in(room, room[1], room[2], mode);
+    if CONTINUATIONS < room.len() {
+        return mode_in(room, room[MODES], room[STATES], mode);
     }
     Found::Outside
 }
@@ -92,8 +96,8 @@ fn count_in(room: &[u32], start: u32, end: u32) -> StateCount
 pub fn state_count(room: &[u32]) -> StateCount
     ensures { λ r. ⌜ countSaid r ≡ stateCount (now (room .entry)) ⌝ }
 {
-    if 8 < room.len() {
-        return count_in(room, room[2], room[3]);
+    if CONTINUATIONS < room.len() {
+        return count_in(room, room[STATES], room[RUNS]);
     }
     StateCount::NotTable
 }

@@ -1,6 +1,6 @@
 -- The laws of finding a record: by the tests that the code makes, where a record that is found lies, how to go on from it, and that `said`
 -- takes no two answers to one. `got` is what the code found. Assumes nothing.
-use Prim.Native.Nat.{ℕ, _+_, _*_, _^_, _<_, _≤_}
+use Prim.Native.Nat.{ℕ, zero, suc, _+_, _*_, _-_, _^_, _<_, _≤_}
 use native.Mathlib.Nat.{mul-le-mul}
 use native.Mathlib.Omega.{arith}
 use mathlib.Core.Path.{_≡_, refl, sym, ap, _∙_}
@@ -16,7 +16,7 @@ use Rattle.refusal.specs.Said.{Said, ok, no}
 use Rattle.refusal.specs.Lists.{pick}
 use Rattle.room_read.specs.declared.Found.{Found}
 use Rattle.room_read.specs.declared.Found.the-variants.{At, Absent, Outside}
-use Rattle.room_read.specs.Room.{said, recordIn, listedIn, recordAt, stateAt, follow}
+use Rattle.room_read.specs.Room.{said, recordIn, listedIn, recordAt, wordsEnd, endOf, sectionOf, pastLists, listedAt, stateAt, follow}
 
 -- a product of two u32 fits
 pub product : (i s : ℕ) → i ≤ 4294967295 → s ≤ 4294967295 → i * s ≤ 4294967295 * 4294967295
@@ -53,9 +53,9 @@ module _ (w : List ℕ) (s e : ℕ) where
       omega (arith, leb-true e (length w) (h₂ .0), ltb-true (i * size + s + size) e (h₄ .0))
 
   -- a record of a length of its own starts in its section, which lies in the room
-  pub listed-in-room : (list i : ℕ) {p : ℕ} → listedIn w s e list i ≡ At p → (p < e) × (e ≤ length w)
+  listed-in-room : (i list : ℕ) {p : ℕ} → listedIn w s e i list ≡ At p → (p < e) × (e ≤ length w)
   unfolding listedIn
-  listed-in-room list i {p} h =
+  listed-in-room i list {p} h =
       let at = getD w (list + i) 0 in
       let h₁ = held (ltb s e) h in
       let h₂ = held (leb e (length w)) (h₁ .1) in
@@ -65,6 +65,52 @@ module _ (w : List ℕ) (s e : ℕ) where
       let h₆ = held (ltb at e) (h₅ .1) in
       let q : at ≡ p = cc in
       (omega (arith, ltb-true at e (h₆ .0)), leb-true e (length w) (h₂ .0))
+
+-- it is found by a list of places, wherever that starts
+some-list : (w : List ℕ) (n j list : ℕ) (f : ℕ → Found) {p : ℕ} → pastLists w n j list f ≡ At p → (l : ℕ) × (f l ≡ At p)
+unfolding pastLists
+some-list w zero j list f h = (list, h)
+some-list w (suc n) j list f h = some-list w n (j + 1) (list + getD w (getD w (sectionOf j) 0) 0) f (held (ltb (getD w (sectionOf j) 0) (length w)) h .1)
+
+pub record Lies (w : List ℕ) (k p : ℕ) : Type 0 where
+  pub header : 8 < length w
+  pub before : p < endOf w k
+  pub inside : endOf w k ≤ length w
+
+pub listed-lies : (w : List ℕ) (k i : ℕ) {p : ℕ} → listedAt w k i ≡ At p → Lies w k p
+unfolding listedAt
+listed-lies w k i h =
+    let h₁ = held (ltb 8 (length w)) h in
+    let h₂ = held (leb k 8) (h₁ .1) in
+    let q = some-list w (k - 4) 0 (wordsEnd w) (listedIn w (getD w k 0) (endOf w k) i) (h₂ .1) in
+    let l = listed-in-room w (getD w k 0) (endOf w k) i (q .0) (q .1) in
+    record { header = ltb-true 8 (length w) (h₁ .0); before = l .0; inside = l .1 }
+
+-- where it ends is read in the header; its first number, and the number behind that
+module _ (w : List ℕ) (k i : ℕ) {p : ℕ} {got : Found} (g : got ≡ listedAt w k i) (e : got ≡ At p) where
+  lies : Lies w k p
+  lies = listed-lies w k i (sym g ∙ e)
+
+  pub listed-header : (j : ℕ) → j < 9 → j < length w
+  listed-header j h = omega (arith, lies .header)
+
+  pub listed-before : {n : ℕ} → endOf w k ≡ n → p < n
+  listed-before h = rw h at (lies .before)
+
+  pub listed-inside : {n : ℕ} → endOf w k ≡ n → n ≤ length w
+  listed-inside h = rw h at (lies .inside)
+
+  pub listed-first : p < length w
+  listed-first = omega (arith, lies .before, lies .inside)
+
+  pub listed-index : length w * 4 < 2 ^ 63 → Fits w64 (p + 1)
+  listed-index l = record { fits = omega (arith, listed-first) }
+
+  pub listed-bytes : length w * 4 < 2 ^ 63 → Fits w64 (p * 4)
+  listed-bytes l = record { fits = omega (arith, listed-first) }
+
+-- what a lookup that goes on from such a record is left with
+pub ruleset oflist = (listed-header, listed-before, listed-inside, listed-first, listed-index, listed-bytes)
 
 -- a record of a section of fixed size lies in the room, whole
 pub record-at-in-room : (w : List ℕ) (k size i : ℕ) {p : ℕ} → recordAt w k size i ≡ At p → p + size ≤ length w

@@ -18,11 +18,11 @@ module _ (w : List ℕ) (s e : ℕ) (h : s < e) (k : e ≤ length w) (i : ℕ) w
   unfolding recordIn
   record-absent size c = simp (lt-ltb _ _ h, le-leb _ _ k, le-ltb _ _ c)
 
-  pub listed-there : (list : ℕ) → i < getD w s 0 → list + i < length w → s < getD w (list + i) 0 → getD w (list + i) 0 < e → listedIn w s e list i ≡ At (getD w (list + i) 0)
+  pub listed-there : (list : ℕ) → i < getD w s 0 → list + i < length w → s < getD w (list + i) 0 → getD w (list + i) 0 < e → listedIn w s e i list ≡ At (getD w (list + i) 0)
   unfolding listedIn
   listed-there list c l a b = simp (lt-ltb _ _ h, le-leb _ _ k, lt-ltb _ _ c, lt-ltb _ _ l, lt-ltb _ _ a, lt-ltb _ _ b)
 
-  pub listed-absent : (list : ℕ) → getD w s 0 ≤ i → listedIn w s e list i ≡ Absent
+  pub listed-absent : (list : ℕ) → getD w s 0 ≤ i → listedIn w s e i list ≡ Absent
   unfolding listedIn
   listed-absent list c = simp (lt-ltb _ _ h, le-leb _ _ k, le-ltb _ _ c)
 

@@ -1,3 +1,4 @@
+pub mod Header
 pub mod Room
 pub mod Search
 pub mod Part

@@ -3,6 +3,27 @@
 ghost use mathlib.Core.Path.{_≡_};
 ghost use Rattle.room_read.specs.Room.{placed, recordIn, stateAt};
 
+// The numbers of a room's header: how many words there are, and where each section starts. Behind it stand the words.
+pub const WORDS: usize = 0;
+
+pub const MODES: usize = 1;
+
+pub const STATES: usize = 2;
+
+pub const RUNS: usize = 3;
+
+pub const ASCII_ROWS: usize = 4;
+
+pub const WIDE_ROWS: usize = 5;
+
+pub const ACCEPTS: usize = 6;
+
+pub const ESCAPE_ROWS: usize = 7;
+
+pub const CONTINUATIONS: usize = 8;
+
+pub const HEADER: usize = 9;
+
 // Where a record stands.
 pub enum Found {
     At(usize),
@@ -54,8 +75,8 @@ pub fn record_in(room: &[u32], start: u32, end: u32, size: u32, i: u32) -> Found
 pub fn find_state(room: &[u32], state: u16) -> Found
     ensures { λ r. ⌜ r ≡ stateAt (now (room .entry)) state ⌝ }
 {
-    if 8 < room.len() {
-        return record_in(room, room[2], room[3], 4, state as u32);
+    if CONTINUATIONS < room.len() {
+        return record_in(room, room[STATES], room[RUNS], 4, state as u32);
     }
     Found::Outside
 }

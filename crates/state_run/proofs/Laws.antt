@@ -1,14 +1,13 @@
 -- The laws of a state's run: where it lies, what its reading gives, and that what is said of a scan takes no two answers to one. Assumes
 -- nothing.
-use Prim.Native.Nat.{ℕ, _+_, _<_, _≤_}
+use Prim.Native.Nat.{ℕ, _≤_}
 use native.Mathlib.Omega.{arith}
 use mathlib.Core.Path.{_≡_, refl, sym, ap, _∙_}
 use mathlib.Core.Bool.{Bool, true, false}
 use mathlib.Core.List.{List, [], _∷_}
-use lib.Dec.{ltb, eqb}
+use lib.Dec.{eqb}
 use lib.ListN.{length, getD, take, length-take}
 use borrow.Author.Needs.{needs}
-use borrow.Author.Tests.{ltb-true}
 use Rattle.refusal.specs.declared.Refusal.{Refusal}
 use Rattle.refusal.specs.Said.{Said, ok, no}
 use Rattle.ascii_range.specs.declared.AsciiRanges.{AsciiRanges}
@@ -22,25 +21,10 @@ use Rattle.ascii_run.proofs.Answers.{gives, given}
 use Rattle.room_read.specs.declared.Found.{Found}
 use Rattle.room_read.specs.declared.Found.the-variants.{At, Absent, Outside}
 use Rattle.room_read.specs.Room.{follow}
-use Rattle.room_read.proofs.Records.{held, listed-in-room}
-use Rattle.run_places.specs.RunPlaces.{runPlace}
+use Rattle.room_read.proofs.Records.{oflist}
 use Rattle.state_run.specs.declared.StateScan.{StateScan}
 use Rattle.state_run.specs.declared.StateScan.the-variants.{NoRun, Skipped, NoAnswer}
 use Rattle.state_run.specs.StateRun.{notTable, judged, gotOf, runIn, said}
-
--- a run is found only behind a header, in its section, which lies in the room
-run-lies : (w : List ℕ) (i : ℕ) {p : ℕ} → runPlace w i ≡ At p → (8 < length w) × (getD w 4 0 ≤ length w)
-unfolding runPlace
-run-lies w i h =
-    let h₁ = held (ltb 8 (length w)) h in
-    (ltb-true 8 (length w) (h₁ .0), listed-in-room w (getD w 3 0) (getD w 4 0) (9 + getD w 0 0) i (h₁ .1) .1)
-
-module _ (w : List ℕ) (i : ℕ) {p : ℕ} {got : Found} (g : got ≡ runPlace w i) (e : got ≡ At p) where
-  pub run-header : 4 < length w
-  run-header = let h = run-lies w i (sym g ∙ e) .0 in omega arith
-
-  pub run-end : getD w 4 0 ≤ length w
-  run-end = run-lies w i (sym g ∙ e) .1
 
 -- going on from what was found
 module _ (x : Found) (f : ℕ → Got) (a o : Got) {got : Found} {r : RunAnswer} where
@@ -56,7 +40,7 @@ module _ (x : Found) (f : ℕ → Got) (a o : Got) {got : Found} {r : RunAnswer}
   unfolding follow
   outside-run g e h = rw (sym g ∙ e) h
 
-pub ruleset chain = (needs, run-header, run-end, there-run, absent-run, outside-run)
+pub ruleset chain = (needs, oflist, there-run, absent-run, outside-run)
 
 -- an answer gives what it says
 pub got-back : {r : RunAnswer} (g : Got) → Gives r g → gotOf (r .answer) (r .ranges) ≡ g

@@ -1,7 +1,7 @@
 -- The run of a state, and the scan by it (document 01, "Lookups"). w is the room, s a state, bs the bytes of an input. Assumes nothing.
 use Prim.Native.Nat.{ℕ}
 use mathlib.Core.List.{List, [], _∷_}
-use lib.ListN.{getD, take}
+use lib.ListN.{take}
 use Rattle.refusal.specs.Said.{Said, ok, no, STATE, NOT-TABLE}
 use Rattle.ascii_range.specs.declared.AsciiRanges.{AsciiRanges}
 use Rattle.ascii_run.specs.declared.Answered.{Answered}
@@ -9,7 +9,8 @@ use Rattle.ascii_run.specs.declared.Answered.the-variants.{Ran, Refused}
 use Rattle.ascii_run.specs.Shape.{Got, run, refused, shape}
 use Rattle.ascii_run.specs.Words.{readAt}
 use Rattle.ascii_run.specs.Scan.{bit, skipped, scanSaid}
-use Rattle.room_read.specs.Room.{stateAt, follow}
+use Rattle.room_read.specs.Header.{RUNS}
+use Rattle.room_read.specs.Room.{endOf, stateAt, follow}
 use Rattle.run_places.specs.RunPlaces.{runPlace}
 use Rattle.state_run.specs.declared.StateScan.{StateScan}
 use Rattle.state_run.specs.declared.StateScan.the-variants.{NoRun, Skipped, NoAnswer}
@@ -33,7 +34,7 @@ runIn w e p = judged (readAt (take e w) p)
 
 -- a state's run has its number; where there is none, the room is no table
 unfoldable pub runOf : List ℕ → ℕ → Got
-runOf w i = follow (runPlace w i) (runIn w (getD w 4 0)) notTable notTable
+runOf w i = follow (runPlace w i) (runIn w (endOf w RUNS)) notTable notTable
 
 unfoldable pub asciiRun : List ℕ → ℕ → Got
 asciiRun w s = follow (stateAt w s) (λ p. runOf w s) (refused STATE 0) notTable

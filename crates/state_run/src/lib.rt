@@ -1,6 +1,5 @@
 // The run of a state. The room may be of any length and hold any numbers.
 // The answer `StateScan` is that of `state_scan_length` above.
-ghost use mathlib.Core.Path.{_≡_};
 ghost use Prim.Native.Nat.{_≤_};
 ghost use lib.ListN.{length};
 ghost use Rattle.ascii_run.specs.Shape.{Gives, refused};
@@ -10,6 +9,7 @@ use ascii_run::RunAnswer;
 use refusal::NOT_TABLE;
 use refusal::Refusal;
 use refusal::STATE;
+use room_read::ASCII_ROWS;
 use room_read::Found;
 
 // What a scan by a state's run answers: no run; how far it went, and whether an exit stopped it; or why there is no answer.
@@ -52,7 +52,7 @@ fn run_of(room: &[u32], i: u32) -> RunAnswer
     ensures { λ r. ⌜ Gives r (runOf (now (room .entry)) i) ⌝ }
 {
     match run_places::find_run(room, i) {
-        Found::At(p) => read_run(room, room[4], p),
+        Found::At(p) => read_run(room, room[ASCII_ROWS], p),
         Found::Absent => refuse(NOT_TABLE),
         Found::Outside => refuse(NOT_TABLE),
     }

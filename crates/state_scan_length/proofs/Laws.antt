@@ -17,7 +17,7 @@ use Rattle.ascii_run.specs.declared.Scanned.{Scanned}
 use Rattle.ascii_run.specs.declared.Scanned.the-variants as scan-variants
 use Rattle.ascii_run.specs.declared.Answered.{Answered}
 use Rattle.ascii_run.specs.declared.Answered.the-variants.{Ran, Refused}
-use Rattle.ascii_run.specs.Shape.{Got, run, refused, shapeOf, held as heldRun, answered, Gives}
+use Rattle.ascii_run.specs.Shape.{Got, refused, shapeOf, held as heldRun, answered, Gives}
 use Rattle.ascii_run.specs.Words.{readAt, shortRun, orField, kindOf, bytesOf, rangesRun}
 use Rattle.ascii_run.specs.Scan as scan
 use Rattle.ascii_run.specs.Scan.{bit, scanSaid}
@@ -25,8 +25,9 @@ use Rattle.ascii_run.proofs.Reading.{bare, read-end, read-short, read-cut, read
 use Rattle.room_read.specs.declared.Found.{Found}
 use Rattle.room_read.specs.declared.Found.the-variants.{At, Absent, Outside}
 use Rattle.room_read.specs.Room.{follow}
+use Rattle.room_read.proofs.Records.{oflist}
 use Rattle.state_run.specs.StateRun.{judged, gotOf, scannedBy}
-use Rattle.state_run.proofs.Laws.{got-back, got-answered, taken, run-header, run-end}
+use Rattle.state_run.proofs.Laws.{got-back, got-answered, taken}
 
 -- what a scan by a run answers
 pub tells-length : {s : Scanned} {x : AsciiRunScan} → s ≡ scan-variants.Skipped x → ok (x .bytes ∷ bit (x .«found_exit») ∷ []) ≡ scan.said s
@@ -101,4 +102,4 @@ module _ (x : Found) (f : ℕ → Got) (a o : Got) (bs : List ℕ) {got : Found}
 pub by-scan : {s all : Said} (x : Said) → s ≡ x → all ≡ s → all ≡ x
 by-scan x e f = f ∙ e
 
-pub ruleset scanning = (needs, tells-length, tells-none, by-scan, taken, run-header, run-end, zero-scan, short-scan, short-lost, ranges-lost, ranges-scan, end-scan, word-scan, cut-scan, words-scan, there-scan, absent-scan, outside-scan)
+pub ruleset scanning = (needs, tells-length, tells-none, by-scan, taken, oflist, zero-scan, short-scan, short-lost, ranges-lost, ranges-scan, end-scan, word-scan, cut-scan, words-scan, there-scan, absent-scan, outside-scan)

@@ -17,6 +17,7 @@ use ascii_run::Scanned;
 use refusal::NOT_TABLE;
 use refusal::Refusal;
 use refusal::STATE;
+use room_read::ASCII_ROWS;
 use room_read::Found;
 use state_run::StateScan;
 
@@ -103,7 +104,7 @@ fn scan_of(room: &[u32], i: u32, input: &[u8]) -> StateScan
     ensures { λ r. ⌜ said r ≡ scannedBy (runOf (now (room .entry)) i) (now (input .entry)) ⌝ }
 {
     match run_places::find_run(room, i) {
-        Found::At(p) => scan_run(room, room[4], p, input),
+        Found::At(p) => scan_run(room, room[ASCII_ROWS], p, input),
         Found::Absent => no_answer(NOT_TABLE),
         Found::Outside => no_answer(NOT_TABLE),
     }

@@ -13,6 +13,7 @@ use Rattle.refusal.specs.Said.{Said, ok, no}
 use Rattle.refusal.specs.Lists.{pick}
 use Rattle.room_read.specs.declared.Found.{Found}
 use Rattle.room_read.specs.declared.Found.the-variants.{At}
+use Rattle.room_read.specs.Header.{ASCII-ROWS}
 use Rattle.room_read.proofs.Records.{record-at-in-room, ofstate}
 use Rattle.targets.specs.declared.Target.{Target}
 use Rattle.targets.specs.declared.Target.the-variants.{To, NoState, NotTable}
@@ -22,7 +23,7 @@ use Rattle.targets.specs.Targets.{said, asciiRowAt}
 module _ (w : List ℕ) (row : ℕ) {p : ℕ} {got : Found} (g : got ≡ asciiRowAt w row) (e : got ≡ At p) where
   whole : p + 64 ≤ length w
   unfolding asciiRowAt
-  whole = record-at-in-room w 4 64 row (sym g ∙ e)
+  whole = record-at-in-room w ASCII-ROWS 64 row (sym g ∙ e)
 
   pub symbol-word : (x : ℕ) → x < 128 → p + x / 2 < length w
   symbol-word x h = omega (arith, whole)

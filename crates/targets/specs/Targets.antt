@@ -2,12 +2,12 @@
 use Prim.Native.Nat.{ℕ, _+_, _/_, _%_}
 use mathlib.Core.List.{List, [], _∷_}
 use lib.Dec.{ltb, leb, eqb}
-use lib.ListN.{length, getD}
+use lib.ListN.{getD}
 use Rattle.refusal.specs.Said.{Said, ok, no, STATE, NOT-TABLE}
 use Rattle.refusal.specs.Lists.{pick}
 use Rattle.room_read.specs.declared.Found.{Found}
-use Rattle.room_read.specs.declared.Found.the-variants.{Outside}
-use Rattle.room_read.specs.Room.{recordAt, listedIn, follow, ofState}
+use Rattle.room_read.specs.Header.{ASCII-ROWS, WIDE-ROWS}
+use Rattle.room_read.specs.Room.{recordAt, endOf, listedAt, follow, ofState}
 use Rattle.room_read.specs.Search.{searched, given}
 use Rattle.targets.specs.declared.Target.{Target}
 use Rattle.targets.specs.declared.Target.the-variants.{To, NoState, NotTable}
@@ -31,7 +31,7 @@ abbrev pub half : ℕ → ℕ → ℕ
 half word x = pick (eqb (x % 2) 0) (word % 65536) (word / 65536)
 
 unfoldable pub asciiRowAt : List ℕ → ℕ → Found
-asciiRowAt w row = recordAt w 4 64 row
+asciiRowAt w row = recordAt w ASCII-ROWS 64 row
 
 -- the row is found before "symbol past 127 for `ascii_target`" is STATE
 unfoldable pub rowTarget : List ℕ → ℕ → ℕ → Said
@@ -41,19 +41,15 @@ rowTarget w row x =
 abbrev pub asciiTarget : List ℕ → ℕ → ℕ → Said
 asciiTarget w s x = ofState w s (λ p. rowTarget w (getD w p 0) x)
 
--- the places of the wide rows stand behind the words and the places of the runs, of which there are as many as the number at `runs` says
-abbrev pub wideRowPast : List ℕ → ℕ → ℕ → ℕ → ℕ → ℕ → Found
-wideRowPast w words runs s e row = pick (ltb runs (length w)) (listedIn w s e (9 + words + getD w runs 0) row) Outside
-
-unfoldable pub wideRowAt : List ℕ → ℕ → Found
-wideRowAt w row = pick (ltb 8 (length w)) (wideRowPast w (getD w 0 0) (getD w 3 0) (getD w 5 0) (getD w 6 0) row) Outside
+abbrev pub wideRowAt : List ℕ → ℕ → Found
+wideRowAt w row = listedAt w WIDE-ROWS row
 
 -- the target of the range that a search gives, "else dead"
 abbrev pub searchTarget : List ℕ → ℕ → ℕ → ℕ → Said
 searchTarget w p e x = given (searched w p e x) target (ok (65535 ∷ [])) (no NOT-TABLE 0)
 
 abbrev pub wideTarget : List ℕ → ℕ → ℕ → Said
-wideTarget w row x = follow (wideRowAt w row) (λ p. searchTarget w p (getD w 6 0) x) (no NOT-TABLE 0) (no NOT-TABLE 0)
+wideTarget w row x = follow (wideRowAt w row) (λ p. searchTarget w p (endOf w WIDE-ROWS) x) (no NOT-TABLE 0) (no NOT-TABLE 0)
 
 -- the target on a symbol that no ascii row has
 abbrev pub wideOf : List ℕ → ℕ → ℕ → Said

@@ -1,7 +1,10 @@
 // Where a state goes on a byte. The room may be of any length and hold any numbers.
 ghost use mathlib.Core.Path.{_≡_};
 ghost use Rattle.targets.specs.Targets.{said, half, asciiRowAt, rowTarget, asciiTarget};
+use room_read::ASCII_ROWS;
+use room_read::CONTINUATIONS;
 use room_read::Found;
+use room_read::WIDE_ROWS;
 
 // A target; or no such state, or no table.
 pub enum Target {
@@ -23,8 +26,8 @@ fn half_of(word: u32, symbol: u32) -> u16
 fn find_ascii_row(room: &[u32], row: u32) -> Found
     ensures { λ r. ⌜ r ≡ asciiRowAt (now (room .entry)) row ⌝ }
 {
-    if 8 < room.len() {
-        return room_read::record_in(room, room[4], room[5], 64, row);
+    if CONTINUATIONS < room.len() {
+        return room_read::record_in(room, room[ASCII_ROWS], room[WIDE_ROWS], 64, row);
     }
     Found::Outside
 }
