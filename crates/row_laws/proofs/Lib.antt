@@ -12,6 +12,5 @@ pub mod Looks
 pub mod SameRows
 pub mod Flips
 pub mod Found
-pub mod Examples
 pub mod Sizes
 pub mod Goals

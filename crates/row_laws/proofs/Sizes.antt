@@ -9,7 +9,7 @@ use Rattle.refusal.specs.Lists.{pick}
 use Rattle.table.specs.Table.{Range}
 use Rattle.transitions.specs.Transition.{Transition}
 use Rattle.segments.specs.Segments.{cutsOf}
-use Rattle.masks.specs.Masks.{maskOf, isZero, index, distinctOf}
+use Rattle.masks.specs.Masks.{maskOf, isZero, index}
 use Rattle.row_laws.specs.Row.{Row, DEAD, Each, segment, rowFrom, rowOver, touches, grown, joinTo, join, cutTo, partFrom}
 use Rattle.row_laws.specs.Build.{given, targetOf, contOf, targetRow, contRow, wideOf, escapeOf}
 
@@ -94,9 +94,3 @@ each-given P d ds vs m h k = go (isZero m)
     go : (t : Bool) → P (pick t d (getD vs (index ds m) d))
     go true = h
     go false = k (index ds m)
-
--- "a 16-bit target"
-pub target-goals : (ts : List Transition) (targets : List ℕ) → ((i : ℕ) → getD targets i DEAD ≤ 65535) → Each (λ r. r .goal ≤ 65535) (targetRow ts targets)
-unfolding targetRow
-target-goals ts targets h =
-    each-over (λ x. x ≤ 65535) DEAD (λ p. targetOf ts targets (maskOf ts p)) (λ p. each-given (λ x. x ≤ 65535) DEAD (distinctOf ts) targets (maskOf ts p) (omega arith) h) (cutsOf ts)
