@@ -146,14 +146,6 @@ module _ (w : List ℕ) (n p j k : ℕ) (l : j ≤ n) (h : (i : ℕ) → i < j �
 
 -- The span about a key
 
-pub floor-none : (w : List ℕ) (p j : ℕ) → j ≡ 0 → Floor w p j 0
-floor-none w p j z = record { none = λ _. refl; some = λ h. absurd (omega arith) }
-
-pub floor-some : (w : List ℕ) (p j : ℕ) {x : ℕ} → (j ≡ 0 → ⊥) → x ≡ numberAt w (p + 8 * (j - 1) + 4) → Floor w p j (x + 1)
-floor-some w p j z e = record { none = λ h. absurd (z h); some = λ _. ap (λ (y : ℕ). y + 1) e }
-
-pub ruleset floors = (needs, floor-none, floor-some)
-
 module _ (w : List ℕ) (n p q j : ℕ) (o : Rises w n p) (s : Reach w n p q j) {f : ℕ} (a : Floor w p j f) where
   before : (k : ℕ) → f ≤ k → (i : ℕ) → i < j → highAt w p i < k
   before k l i h =

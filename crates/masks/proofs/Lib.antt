@@ -5,4 +5,3 @@ pub mod Puts
 pub mod Columns
 pub mod Keeps
 pub mod Answers
-pub mod Examples
