@@ -142,7 +142,3 @@ module _ (w : List ℕ) (m s r a v x e c : ℕ) (f : Fit w) (n : length w ≤ 81
   -- what is accepted is the words of a table that obeys the rules
   pub accepted-obeys : broken w m s r a v x e c ≡ 0 → (t : Table) × Fields t × Rules t × (w ≡ wordsOf t)
   accepted-obeys z = let t = found-judged in (t .0, t .1, unbroken-is (t .0) (t .1) (within w (t .0) n (t .2)) .0 (t .3 ∙ z), t .2)
-
-  -- what is refused by INDEX is the words of a table that breaks that rule first
-  pub refused-breaks : (k : ℕ) → 0 < k → broken w m s r a v x e c ≡ k → (t : Table) × Fields t × FirstBroken t k × (w ≡ wordsOf t)
-  refused-breaks k p z = let t = found-judged in (t .0, t .1, broken-is (t .0) (t .1) (within w (t .0) n (t .2)) k p .0 (t .3 ∙ z), t .2)

@@ -24,7 +24,7 @@ use Rattle.words.specs.declared.Place.the-variants.{Next}
 use Rattle.words.specs.Records.{behind, runAt}
 use Rattle.table.specs.Table.{packed, bytes, runWords, All, InOrder, RunFields}
 use Rattle.table.specs.Whole.{Fit}
-use Rattle.table.proofs.Codec.{At, Split, Codec, here, same, on, at-length, at-head}
+use Rattle.table.proofs.Codec.{At, Split, Codec, on, at-length, at-head}
 
 -- Bytes
 
@@ -412,32 +412,3 @@ read-shape s post {q = q} v a e =
     let f = shape-reads s post v a in
     let h : q ≡ held s = cc in
     ap shape h ∙ held-shape s v
-
-read-inside : (w : List ℕ) (at : ℕ) {q : Run} → readAt w at ≡ run q → at ≤ length w
-unfolding readAt
-read-inside w at {q} e = go (ltb at (length w)) refl
-  where
-    go : (b : Bool) → ltb at (length w) ≡ b → at ≤ length w
-    go true u = omega (arith, ltb-true at (length w) u)
-    go false u = absurd (never (rw u at e))
-
--- a run that was read
-module _ (w : List ℕ) (at : ℕ) {q : Run} (f : Fit w) (e : readAt w at ≡ run q) where
-  opens-here : Opens q (drop at w)
-  opens-here = run-opens w at (drop at w) f (here w at (read-inside w at e)) e
-
-  -- has good fields
-  pub read-allowed : RunFields (shape q)
-  read-allowed = opens-here .reads .allowed
-
-  -- is the run that its shape is held as
-  pub read-held : held (shape q) ≡ q
-  read-held =
-      let o = opens-here in
-      let a = same (here w at (read-inside w at e)) (o .whole ∙ ap (λ l. l ++ o .post) (sym (o .reads .opened))) in
-      let g = shape-reads (shape q) (o .post) (o .reads .allowed) a in
-      (cc)
-
-  -- and is written as the words of its shape
-  pub read-written : runWords (shape q) ≡ listing (wordsOf (q .kind) (q .ranges))
-  read-written = opens-here .reads .written
