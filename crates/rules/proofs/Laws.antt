@@ -81,5 +81,3 @@ pub ruleset striding = (needs, passed-sized, passed-from, starts-from, failed, j
 pub unlisted : (read : List ℕ → ℕ → Place) (test : ℕ → Bool) (w : List ℕ) (at : ℕ) → length w ≤ at → true ≡ everyIn read test w at
 unfolding everyIn every walk
 unlisted read test w at h = rw (← past-end w at h)
-
-pub ruleset listing = (needs, unlisted)
