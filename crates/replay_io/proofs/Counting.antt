@@ -5,9 +5,10 @@ use mathlib.Core.Bool.{Bool, true, false}
 use mathlib.Core.List.{List}
 use borrow.Author.Needs.{needs}
 use borrow.Author.Tests.{lt-ltb, le-ltb}
-use lib.ListN.{length, getD, set, List·getD-eq-default}
+use lib.ListN.{length, getD, set}
 use lib.Seq.{set-out}
 use Rattle.replay_io.specs.declared.tally.Replayed.{Replayed}
+use Rattle.replay_io.proofs.Reading.{past-end}
 use Rattle.replay_io.specs.Tally.{placeOf, oneMore, taken, counted}
 
 pub equal-place : (kind : ℕ) {same : Bool} → same ≡ true → 2 * kind ≡ placeOf kind same
@@ -26,9 +27,6 @@ module _ (counts : List ℕ) (place : ℕ) where
   pub more-past : length counts ≤ place → counts ≡ oneMore counts place
   unfolding oneMore
   more-past h = sym (set-out counts place _ h)
-
-  pub none-past : length counts ≤ place → 0 ≡ getD counts place 0
-  none-past h = sym (List·getD-eq-default counts 0 h)
 
 module _ (r : Replayed) (rest counts : List ℕ) where
   pub taken-none : length rest ≤ r .more → 0 ≡ taken r rest
@@ -49,4 +47,4 @@ module _ (r : Replayed) (rest counts : List ℕ) where
   counted-one e f g h = rw (e, f, g, lt-ltb _ _ h)
 
 -- what counting is left with
-pub ruleset counting = (needs, equal-place, other-place, more-in, more-past, none-past, taken-none, taken-all, counted-none, counted-one)
+pub ruleset counting = (needs, equal-place, other-place, more-in, more-past, past-end, taken-none, taken-all, counted-none, counted-one)

@@ -1,14 +1,15 @@
 -- The law of a loop that puts numbers of k bytes at the front of a buffer: n of them, of which i stand. Assumes nothing.
 use Prim.Native.Nat.{ℕ, zero, suc, _+_, _*_, _-_, _<_, _≤_}
 use native.Mathlib.Omega.{arith}
-use mathlib.Core.Path.{_≡_, refl, sym}
+use mathlib.Core.Path.{_≡_, refl}
 use mathlib.Core.List.{List, _∷_}
 use borrow.Author.Needs.{needs}
-use lib.ListN.{length, drop, take, set}
-use lib.Seq.{drop-drop, length-take-le}
+use lib.ListN.{length, drop, set}
+use lib.Seq.{drop-drop}
 use Rattle.written.specs.Over.{Put}
 use Rattle.written.proofs.Going.{Going, going-start, going-done, going-place, going-put}
 use Rattle.replay_io.specs.Bytes.{number, numbers}
+use Rattle.replay_io.proofs.Reading.{part-many}
 
 -- there are n of them
 pub numbers-many : (k n : ℕ) (s : List ℕ) → length (numbers k n s) ≡ n
@@ -51,8 +52,5 @@ module _ (k n : ℕ) (s : List ℕ) {old : List ℕ} where
     pub put-within : Going (numbers k n s) 0 old (left k n s i) i out → i ≤ length out
     put-within g = omega (arith, g .next, g .size, g .room)
 
-pub put-many : (i : ℕ) (out : List ℕ) → i ≤ length out → i ≡ length (take i out)
-put-many i out h = sym (length-take-le i out h)
-
 -- what the loop is left with
-pub ruleset putting = (needs, put-start, put-place, put-turn, put-done, put-within, put-many)
+pub ruleset putting = (needs, put-start, put-place, put-turn, put-done, put-within, part-many)

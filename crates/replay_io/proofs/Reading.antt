@@ -53,16 +53,13 @@ part-many l m h = sym (length-take-le m l h)
 
 -- Numbers: the first two bytes, and those behind them
 
-two : (k : ℕ) (s : List ℕ) → number (suc (suc k)) s ≡ getD s 0 0 + 256 * getD s 1 0 + 65536 * number k (drop 2 s)
-unfolding number
-two k s = let e : drop 1 (drop 1 s) ≡ drop 2 s = drop-drop 1 1 s in rw e (omega (arith, getD-drop 1 s 0 0))
-
 number-two : (s : List ℕ) → number 2 s ≡ getD s 0 0 + 256 * getD s 1 0
 unfolding number
 number-two s = omega (arith, getD-drop 1 s 0 0)
 
 halves : (k : ℕ) (s : List ℕ) → number (suc (suc k)) s ≡ number 2 s + 65536 * number k (drop 2 s)
-halves k s = omega (arith, two k s, number-two s)
+unfolding number
+halves k s = let e : drop 1 (drop 1 s) ≡ drop 2 s = drop-drop 1 1 s in rw e (omega arith)
 
 words : (k : ℕ) (s : List ℕ) → number (suc (suc (suc (suc k)))) s ≡ number 4 s + 4294967296 * number k (drop 4 s)
 words k s =
