@@ -24,10 +24,10 @@ pub fn first_broken(
 ) -> u32
     ensures { λ r. ⌜ r ≡ broken (now (words .entry)) modes states runs «ascii_rows» «wide_rows» accepts «escape_rows» continuations ⌝ }
 {
-    if rule_states::mode_starts_are_states(words, modes, states) {
-        if rule_states::states_are_valid(words, states, ascii_rows, wide_rows, accepts) {
+    if rule_walk::mode_starts_are_states(words, modes, states) {
+        if rule_walk::states_are_valid(words, states, ascii_rows, wide_rows, accepts) {
             if same_count(words, runs, states) {
-                if rule_runs::runs_are_classified(words, states, runs, ascii_rows) {
+                if rule_walk::runs_are_classified(words, states, runs, ascii_rows) {
                     return first_broken_row(
                         words,
                         states,
@@ -57,11 +57,11 @@ fn first_broken_row(
 ) -> u32
     ensures { λ r. ⌜ r ≡ brokenRow (now (words .entry)) states «ascii_rows» «wide_rows» «escape_rows» continuations ⌝ }
 {
-    if rule_ascii::ascii_targets_are_good(words, states, ascii_rows) {
-        if rule_ranges::wide_rows_are_searchable(words, states, wide_rows) {
+    if rule_walk::ascii_targets_are_good(words, states, ascii_rows) {
+        if rule_walk::wide_rows_are_searchable(words, states, wide_rows) {
             if same_count(words, escape_rows, states) {
-                if rule_escapes::escape_rows_are_valid(words, escape_rows, continuations) {
-                    if rule_contexts::continuation_contexts_are_valid(words, continuations) {
+                if rule_walk::escape_rows_are_valid(words, escape_rows, continuations) {
+                    if rule_walk::continuation_contexts_are_valid(words, continuations) {
                         return 0;
                     }
                     return 9;

@@ -6,12 +6,12 @@ use native.Mathlib.Numerals.{sub-one, add-one}
 use native.Mathlib.Omega.{arith}
 use mathlib.Core.Path.{_≡_, refl, sym, ap, _∙_}
 use mathlib.Core.List.{List, [], _∷_, _++_}
-use mathlib.Core.Bool.{Bool, true, false, _&&_, and-false, and-true, and-assoc}
+use mathlib.Core.Bool.{Bool, true, false, _&&_, and-true, and-assoc}
 use mir.Syntax.{w64}
 use mir.Val.{Fits}
 use borrow.Author.Needs.{needs}
 use borrow.Author.Tests.{ltb-true, lt-ltb, le-ltb, eq-eqb, ne-eqb}
-use lib.Dec.{ltb, leb, eqb}
+use lib.Dec.{ltb, eqb}
 use lib.ListN.{length, getD, drop-of-length-le}
 use lib.Seq.{drop-cons}
 use Rattle.refusal.specs.declared.Refusal.{Refusal}
@@ -21,15 +21,15 @@ use Rattle.words.specs.declared.Place.{Place}
 use Rattle.words.specs.declared.Place.the-variants.{Next, Refused}
 use Rattle.words.specs.Parse as parse
 use Rattle.words.specs.Parse.{andThen}
-use Rattle.words.specs.Records.{runAt, wideAt, acceptAt, escapeAt, configAt, continuationAt}
-use Rattle.words.proofs.Bounds.{accept-sized, config-sized}
-use Rattle.rules.specs.Rules.{everyFrom, walk, everyIn}
-use Rattle.rules.specs.Rules as rules
-use Rattle.rules.proofs.Laws.{rest, passed, failed, judged-all}
+use Rattle.words.specs.Records.{runAt, wideAt, acceptAt, escapeAt, continuationAt}
+use Rattle.records.specs.declared.Kind.the-variants.{Accept, Continuation}
+use Rattle.rules.specs.Flags.{acceptPlain, continuationPlain}
+use Rattle.rules.proofs.Laws.{in-section}
+use Rattle.rule_walk.specs.declared.Question.the-variants.{AcceptIsPlain, ContinuationIsPlain}
+use Rattle.rule_walk.specs.Questions.{allPass}
 use Rattle.room.specs.Room.{startsFrom, starts, each, shifted, placed, laterPlaces, places}
-use Rattle.room.proofs.Writing.{was, record-limit}
-use Rattle.room.proofs.Records.{inner-fits, continuation-configs, continuation-count}
-use Rattle.judge.specs.Standing.{standsAt, fourStand, eightStand, standing, behind, plain, emptyFrom, acceptPlain, configPlain, continuationPlain, flagsPlain}
+use Rattle.room.proofs.Writing.{record-limit}
+use Rattle.judge.specs.Standing.{standsAt, fourStand, eightStand, standing, behind, emptyFrom, flagsPlain}
 
 -- One number
 
@@ -69,12 +69,6 @@ unfolding eightStand
 stand-eight a b c d e f g h l i j = rw (i, j)
 
 pub ruleset standing-eight = (needs, stand-eight)
-
-pub plain-test : (x : ℕ) {ok : Bool} → ok ≡ leb x 1 → ok ≡ plain x
-unfolding plain
-plain-test x e = e
-
-pub ruleset plain-one = (needs, plain-test)
 
 -- The places of records: g reads them
 
@@ -158,53 +152,12 @@ places-stood w r v x e c n d {i} {j} {k} {l} f g h o p =
     let E = placed continuationAt w c in
     p ∙ sym (behind-append A (B ++ (C ++ (D ++ E))) n d ∙ (rw (← f) (behind-append B (C ++ (D ++ E)) i d ∙ (rw (← g) (behind-append C (D ++ E) j d ∙ (rw (← h) (behind-append D E k d ∙ (rw (← o)))))))))
 
--- Flags
+-- Flags: each record of both sections is asked
 
--- no record is there
-pub lost : (test : ℕ → Bool) (f : ℕ → Place) (left here : ℕ) {r : Refusal} {got : Place} {all : Bool} → rest test f left here ≡ all → 0 < left → got ≡ f here → got ≡ Refused r → false ≡ all
-unfolding walk everyFrom
-lost test f zero here i h g e = absurd (not-suc-le-zero h)
-lost test f (suc n) here i h g e = let k = rw (← g, e) at i in sym (and-false (test here)) ∙ k
-
-pub flags-start : (read : List ℕ → ℕ → Place) (test : ℕ → Bool) (w : List ℕ) (at : ℕ) → rest test (read w) (getD w at 0) (at + 1) ≡ everyIn read test w at
-unfolding everyIn rules.every
-flags-start read test w at = refl
-
--- what a loop over records with flags is left with
-pub ruleset flagging = (needs, flags-start, passed, failed, lost, judged-all, was, inner-fits)
-
--- the flags of a record, and of all, by the tests that are made
-module _ (w : List ℕ) where
-  pub accept-flag : (s : ℕ) {behind : ℕ} → acceptAt w s ≡ Next behind → s + 1 < length w
-  accept-flag s {behind} e = let r = accept-sized w s behind e in omega arith
-
-  pub config-flag : (s : ℕ) {behind : ℕ} → configAt w s ≡ Next behind → s + 2 < length w
-  config-flag s {behind} e = let r = config-sized w s behind e in omega arith
-
-  pub config-other : (s : ℕ) {behind : ℕ} → configAt w s ≡ Next behind → s + 3 < length w
-  config-other s {behind} e = let r = config-sized w s behind e in omega arith
-
-  pub accept-plain : (s : ℕ) {p : Bool} → p ≡ plain (getD w (s + 1) 0) → p ≡ acceptPlain w s
-  unfolding acceptPlain
-  accept-plain s e = e
-
-  pub config-plain : (s : ℕ) {p q : Bool} → p ≡ plain (getD w (s + 2) 0) → q ≡ plain (getD w (s + 3) 0) → (p && q) ≡ configPlain w s
-  unfolding configPlain
-  config-plain s e f = rw (e, f)
-
-  pub continuation-plain : (s k : ℕ) {p : Bool} → p ≡ everyIn configAt (configPlain w) w (s + k) → k ≡ getD w s 0 * 3 + 1 → p ≡ continuationPlain w s
-  unfolding continuationPlain
-  continuation-plain s k e i = rw (← i) e
-
-  pub flags-plain : (x c : ℕ) {p q : Bool} → p ≡ everyIn acceptAt (acceptPlain w) w x → q ≡ everyIn continuationAt (continuationPlain w) w c → (p && q) ≡ flagsPlain w x c
-  unfolding flagsPlain
-  flags-plain x c e f = rw (e, f)
-
-pub ruleset accept-flags = (needs, inner-fits, accept-flag, accept-plain)
-
-pub ruleset config-flags = (needs, inner-fits, config-flag, config-other, config-plain)
-
-pub ruleset continuation-flags = (needs, inner-fits, continuation-configs, continuation-count, continuation-plain)
+pub flags-plain : (w : List ℕ) (x c : ℕ) {p q : Bool} → p ≡ allPass Accept AcceptIsPlain w x → q ≡ allPass Continuation ContinuationIsPlain w c
+    → (p && q) ≡ flagsPlain w x c
+unfolding flagsPlain
+flags-plain w x c e f = rw (e ∙ in-section acceptAt (acceptPlain w) w x, f ∙ in-section continuationAt (continuationPlain w) w c)
 
 pub ruleset all-flags = (needs, flags-plain)
 

@@ -22,7 +22,7 @@ use Rattle.rules.specs.Rules.{broken}
 use Rattle.written.specs.Over.{zeros, padded}
 use Rattle.limits.specs.Limits.{laidOut}
 use Rattle.room.specs.Room.{four, header, made, places, body, numbers, roomFor}
-use Rattle.room.proofs.Sizes.{ordered, made-length}
+use Rattle.room.proofs.Sizes.{made-length}
 use Rattle.codec.specs.declared.Decoded.the-variants as decoded
 use Rattle.codec.specs.declared.Decoded.the-variants.{Table}
 use Rattle.codec.specs.Decode.{judged, decodedFrom, keptFrom}
@@ -245,10 +245,4 @@ module _ (w d : List ℕ) (m s r a v x e c : ℕ) {k : ℕ} where
   unfolding sound
   sound-broken b z = rw (← b, ne-eqb k 0 z)
 
-pub accepts-in : (w : List ℕ) {m s r a v x e c : ℕ} → layoutOf w ≡ Found m s r a v x e c → x < length w
-accepts-in w h = let o = ordered (found w h) in omega (arith, o .escapes, o .continuations, o .all)
-
-pub continuations-in : (w : List ℕ) {m s r a v x e c : ℕ} → layoutOf w ≡ Found m s r a v x e c → c < length w
-continuations-in w h = let o = ordered (found w h) in omega (arith, o .all)
-
-pub ruleset filling = (needs, sound-filled, sound-broken, filled-head, filled-flags, filled-places, filled-all, accepts-in, continuations-in)
+pub ruleset filling = (needs, sound-filled, sound-broken, filled-head, filled-flags, filled-places, filled-all)

@@ -21,7 +21,8 @@ use Rattle.rules.specs.Rules.{everyFrom, walk, everyIn}
 use Rattle.rules.proofs.Laws.{rest}
 use Rattle.room.specs.Room.{startsFrom, starts, each, copied, flag, renewed, acceptMade, configMade, continuationMade, laterMade, made}
 use Rattle.room.proofs.Sizes.{ordered, made-length}
-use Rattle.judge.specs.Standing.{standing, plain, acceptPlain, configPlain, continuationPlain, flagsPlain}
+use Rattle.rules.specs.Flags.{plain, acceptPlain, configPlain, continuationPlain}
+use Rattle.judge.specs.Standing.{standing, flagsPlain}
 use Rattle.judge.proofs.Stood.{moved, next-is, stands-in, stands-is, cons-stands, cons-stood, append-stands, append-stood, stood-is, stands-part}
 
 -- One flag

@@ -1,17 +1,18 @@
 -- How a room is compared, number by number, with what decoding writes. Below, d is the room, w its words, and m s r a v x e c the places
 -- of the counts of modes, states, runs, ascii rows, wide rows, accepts, escape rows and continuations. Assumes nothing.
-use Prim.Native.Nat.{ℕ, _+_, _*_}
+use Prim.Native.Nat.{ℕ, _+_}
 use mathlib.Core.List.{List, [], _∷_}
 use mathlib.Core.Bool.{Bool, false, _&&_}
 use lib.ListN.{length, getD, drop}
-use lib.Dec.{eqb, ltb, leb}
+use lib.Dec.{eqb, ltb}
 use Rattle.refusal.specs.Said.{NOT-TABLE}
 use Rattle.refusal.specs.Lists.{pick, every}
 use Rattle.words.specs.declared.Place.{Place}
 use Rattle.words.specs.declared.Place.the-variants.{Next, Refused}
 use Rattle.words.specs.Parse.{refused}
-use Rattle.words.specs.Records.{acceptAt, configAt, continuationAt}
+use Rattle.words.specs.Records.{acceptAt, continuationAt}
 use Rattle.rules.specs.Rules.{everyIn, broken}
+use Rattle.rules.specs.Flags.{acceptPlain, continuationPlain}
 use Rattle.room.specs.Room.{places}
 
 -- Numbers that stand in a room
@@ -48,18 +49,6 @@ unfoldable pub eightStand : ℕ → ℕ → ℕ → ℕ → ℕ → ℕ → ℕ 
 eightStand m s r a v x e c d = fourStand m s r a 1 d && fourStand v x e c 5 d
 
 -- Flags that are 0 or 1
-
-unfoldable pub plain : ℕ → Bool
-plain x = leb x 1
-
-unfoldable pub acceptPlain : List ℕ → ℕ → Bool
-acceptPlain w s = plain (getD w (s + 1) 0)
-
-unfoldable pub configPlain : List ℕ → ℕ → Bool
-configPlain w s = plain (getD w (s + 2) 0) && plain (getD w (s + 3) 0)
-
-unfoldable pub continuationPlain : List ℕ → ℕ → Bool
-continuationPlain w s = everyIn configAt (configPlain w) w (s + (getD w s 0 * 3 + 1))
 
 unfoldable pub flagsPlain : List ℕ → ℕ → ℕ → Bool
 flagsPlain w x c = everyIn acceptAt (acceptPlain w) w x && everyIn continuationAt (continuationPlain w) w c

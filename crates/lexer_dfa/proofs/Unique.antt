@@ -43,14 +43,24 @@ use Rattle.rules.proofs.word_past.Reads as word-past
 use Rattle.rules.proofs.good.Reads as good
 use Rattle.rules.proofs.none_or.Reads as none-or
 use Rattle.rules.proofs.present.Reads as present
-use Rattle.rule_states.proofs.mode_starts_are_states.Reads as mode-starts-are-states
-use Rattle.rule_states.proofs.states_are_valid.Reads as states-are-valid
-use Rattle.rule_runs.proofs.runs_are_classified.Reads as runs-are-classified
-use Rattle.rule_ascii.proofs.ascii_targets_are_good.Reads as ascii-targets-are-good
-use Rattle.row_order.proofs.searchable.Reads as searchable
-use Rattle.rule_ranges.proofs.wide_rows_are_searchable.Reads as wide-rows-are-searchable
-use Rattle.rule_escapes.proofs.escape_rows_are_valid.Reads as escape-rows-are-valid
-use Rattle.rule_contexts.proofs.continuation_contexts_are_valid.Reads as continuation-contexts-are-valid
+use Rattle.rules.proofs.plain.Reads as plain
+use Rattle.rule_states.proofs.start_is_state.Reads as start-is-state
+use Rattle.rule_states.proofs.state_is_valid.Reads as state-is-valid
+use Rattle.rule_states.proofs.accept_is_plain.Reads as accept-is-plain
+use Rattle.rule_runs.proofs.run_is_classified.Reads as run-is-classified
+use Rattle.rule_rows.proofs.ascii_row_is_good.Reads as ascii-row-is-good
+use Rattle.rule_rows.proofs.wide_row_is_searchable.Reads as wide-row-is-searchable
+use Rattle.rule_rows.proofs.escape_row_is_valid.Reads as escape-row-is-valid
+use Rattle.rule_contexts.proofs.continuation_is_valid.Reads as continuation-is-valid
+use Rattle.rule_contexts.proofs.continuation_is_plain.Reads as continuation-is-plain
+use Rattle.rule_walk.proofs.all_pass.Reads as all-pass
+use Rattle.rule_walk.proofs.mode_starts_are_states.Reads as mode-starts-are-states
+use Rattle.rule_walk.proofs.states_are_valid.Reads as states-are-valid
+use Rattle.rule_walk.proofs.runs_are_classified.Reads as runs-are-classified
+use Rattle.rule_walk.proofs.ascii_targets_are_good.Reads as ascii-targets-are-good
+use Rattle.rule_walk.proofs.wide_rows_are_searchable.Reads as wide-rows-are-searchable
+use Rattle.rule_walk.proofs.escape_rows_are_valid.Reads as escape-rows-are-valid
+use Rattle.rule_walk.proofs.continuation_contexts_are_valid.Reads as continuation-contexts-are-valid
 use Rattle.index_rules.proofs.first_broken.Reads as first-broken
 use Rattle.room.specs.Room.{roomFor}
 use Rattle.written.proofs.clear.Reads as clear
@@ -216,7 +226,48 @@ none-or-unique κs a x y e f p q = p ∙ sym q
 pub present-unique : Determines present.Learnt
 present-unique κs a x y e f p q = p ∙ sym q
 
+pub plain-unique : Determines plain.Learnt
+plain-unique κs a x y e f p q = p ∙ sym q
+
 -- rule_states
+
+pub start-is-state-unique : Determines start-is-state.Learnt
+start-is-state-unique κs a x y e f p q = p ∙ sym q
+
+pub state-is-valid-unique : Determines state-is-valid.Learnt
+state-is-valid-unique κs a x y e f p q = p ∙ sym q
+
+pub accept-is-plain-unique : Determines accept-is-plain.Learnt
+accept-is-plain-unique κs a x y e f p q = p ∙ sym q
+
+-- rule_runs
+
+pub run-is-classified-unique : Determines run-is-classified.Learnt
+run-is-classified-unique κs a x y e f p q = p ∙ sym q
+
+-- rule_rows
+
+pub ascii-row-is-good-unique : Determines ascii-row-is-good.Learnt
+ascii-row-is-good-unique κs a x y e f p q = p ∙ sym q
+
+pub wide-row-is-searchable-unique : Determines wide-row-is-searchable.Learnt
+wide-row-is-searchable-unique κs a x y e f p q = p ∙ sym q
+
+pub escape-row-is-valid-unique : Determines escape-row-is-valid.Learnt
+escape-row-is-valid-unique κs a x y e f p q = p ∙ sym q
+
+-- rule_contexts
+
+pub continuation-is-valid-unique : Determines continuation-is-valid.Learnt
+continuation-is-valid-unique κs a x y e f p q = p ∙ sym q
+
+pub continuation-is-plain-unique : Determines continuation-is-plain.Learnt
+continuation-is-plain-unique κs a x y e f p q = p ∙ sym q
+
+-- rule_walk
+
+pub all-pass-unique : Determines all-pass.Learnt
+all-pass-unique κs a x y e f p q = p ∙ sym q
 
 pub mode-starts-are-states-unique : Determines mode-starts-are-states.Learnt
 mode-starts-are-states-unique κs a x y e f p q = p ∙ sym q
@@ -224,32 +275,17 @@ mode-starts-are-states-unique κs a x y e f p q = p ∙ sym q
 pub states-are-valid-unique : Determines states-are-valid.Learnt
 states-are-valid-unique κs a x y e f p q = p ∙ sym q
 
--- rule_runs
-
 pub runs-are-classified-unique : Determines runs-are-classified.Learnt
 runs-are-classified-unique κs a x y e f p q = p ∙ sym q
-
--- rule_ascii
 
 pub ascii-targets-are-good-unique : Determines ascii-targets-are-good.Learnt
 ascii-targets-are-good-unique κs a x y e f p q = p ∙ sym q
 
--- row_order
-
-pub searchable-unique : Determines searchable.Learnt
-searchable-unique κs a x y e f p q = p ∙ sym q
-
--- rule_ranges
-
 pub wide-rows-are-searchable-unique : Determines wide-rows-are-searchable.Learnt
 wide-rows-are-searchable-unique κs a x y e f p q = p ∙ sym q
 
--- rule_escapes
-
 pub escape-rows-are-valid-unique : Determines escape-rows-are-valid.Learnt
 escape-rows-are-valid-unique κs a x y e f p q = p ∙ sym q
-
--- rule_contexts
 
 pub continuation-contexts-are-valid-unique : Determines continuation-contexts-are-valid.Learnt
 continuation-contexts-are-valid-unique κs a x y e f p q = p ∙ sym q

@@ -5,6 +5,13 @@ use Prim.Native.Nat.{ℕ}
 abbrev pub NONE : ℕ
 NONE = 4294967295
 
+-- "`ESCAPE_STATE` 65534, `DEAD_STATE` 65535"
+abbrev pub ESCAPE-STATE : ℕ
+ESCAPE-STATE = 65534
+
+abbrev pub DEAD-STATE : ℕ
+DEAD-STATE = 65535
+
 -- "`SERIALIZED_TAG` 0x4C440001"
 abbrev pub tag : ℕ
 tag = 0x4C440001

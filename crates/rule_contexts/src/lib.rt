@@ -1,10 +1,13 @@
-// Index rule 9: the contexts of a continuation refer only below themselves, and the context of a config is at most their count (0 is none).
-// It works on the words and the places of the sections' counts; a word past the end is 0, so every function takes any place.
+// What index rule 9 asks of a continuation: its contexts refer only below themselves, and the context of a config is at most their count (0 is none).
+// And whether the flags of its configs are plain. A word past the end is 0, so every function takes any place.
 ghost use mathlib.Core.Path.{_≡_};
-ghost use Prim.Native.Nat.{_+_, _<_, _≤_};
+ghost use Prim.Native.Nat.{_+_, _*_, _<_, _≤_};
 ghost use lib.ListN.{length};
-ghost use Rattle.words.specs.Records.{configAt, continuationAt};
-ghost use Rattle.rules.specs.Rules.{every, everyIn, refersBelow, below, configGood, continuationWith, continuationGood, rule9};
+ghost use Rattle.words.specs.Records.{configAt};
+ghost use Rattle.rules.specs.Rules.{passing, everyIn, refersBelow, below, continuationGood};
+ghost use Rattle.rules.specs.Flags.{continuationPlain};
+ghost use Rattle.rule_contexts.specs.Asked.{configPasses};
+use rules::plain;
 use rules::word_at;
 use rules::word_past;
 use words::Place;
@@ -16,8 +19,7 @@ fn wide(x: u32) -> u64
     x as u64
 }
 
-// Rule 9: context i refers only below i, the second word of kind 0 being free; config contexts are at most the context count.
-// The context at a place, of that number.
+// The context at a place, of that number, refers only below it, the second word of kind 0 being free.
 fn refers_below(words: &[u32], number: u64, at: usize) -> bool
     ensures { λ r. ⌜ r ≡ refersBelow (now (words .entry)) number at ⌝ }
 {
@@ -47,96 +49,85 @@ fn contexts_refer_below(words: &[u32], count: u32, at: usize) -> bool
     true
 }
 
-// The context of the config at a place is at most the context count.
-fn config_is_valid(words: &[u32], contexts: u32, at: usize) -> bool
-    ensures { λ r. ⌜ r ≡ configGood contexts (now (words .entry)) at ⌝ }
-{
-    word_past(words, at, 4) <= contexts
+// What is asked of each config of a continuation: is its context at most so many; are its flags 0 or 1?
+enum Asked {
+    Context(u32),
+    Flags,
 }
 
-// The same of `count` configs from `at`.
-fn config_records_are_valid(words: &[u32], contexts: u32, count: u32, at: usize) -> bool
-    ensures { λ r. ⌜ r ≡ every (configGood contexts (now (words .entry))) (configAt (now (words .entry))) count at ⌝ }
+// The config at a place passes.
+fn config_passes(asked: Asked, words: &[u32], at: usize) -> bool
+    ensures { λ r. ⌜ r ≡ configPasses asked (now (words .entry)) at ⌝ }
 {
-    let mut left = count;
+    match asked {
+        Asked::Context(contexts) => word_past(words, at, 4) <= contexts,
+        Asked::Flags => plain(word_past(words, at, 2)) & plain(word_past(words, at, 3)),
+    }
+}
+
+// How many of `count` configs from `at` pass before the first that does not.
+fn count_configs(asked: Asked, words: &[u32], count: u32, at: usize) -> u32
+    ensures { λ r. ⌜ r ≡ passing (λ i. configPasses asked (now (words .entry))) (configAt (now (words .entry))) 0 count at ⌝ }
+{
+    let mut number: u32 = 0;
     let mut here = at;
-    while 0 < left {
-        if config_is_valid(words, contexts, here) {
-            match listed_words::read_config(words, here) {
-                Place::Next(p) => {
+    while number < count {
+        match listed_words::read_config(words, here) {
+            Place::Next(p) => {
+                if config_passes(asked, words, here) {
                     here = p;
-                    left -= 1;
-                }
-                Place::Refused(_) => {
-                    return false;
+                    number += 1;
+                } else {
+                    return number;
                 }
             }
-        } else {
-            return false;
+            Place::Refused(_) => {
+                return number;
+            }
         }
     }
-    true
+    number
 }
 
-// The same of every config, whose count stands at `at`.
-fn configs_are_valid(words: &[u32], contexts: u32, at: usize) -> bool
-    ensures { λ r. ⌜ r ≡ everyIn configAt (configGood contexts (now (words .entry))) (now (words .entry)) at ⌝ }
+// Each config passes, whose count stands at `at`.
+fn configs_pass(asked: Asked, words: &[u32], at: usize) -> bool
+    ensures { λ r. ⌜ r ≡ everyIn configAt (configPasses asked (now (words .entry))) (now (words .entry)) at ⌝ }
 {
     if words.len() <= at {
         return true;
     }
-    config_records_are_valid(words, contexts, words[at], at + 1)
+    let count = words[at];
+    count_configs(asked, words, count, at + 1) == count
 }
 
-// The continuation at a place in the words, which has `count` contexts.
-fn continuation_with(words: &[u32], count: u32, at: usize) -> bool
+// The same of the configs behind the `count` contexts of the continuation at a place in the words.
+fn configs_behind(asked: Asked, words: &[u32], count: u32, at: usize) -> bool
     requires { ⌜ at < length (now words) ⌝ }
-    ensures { λ r. ⌜ r ≡ continuationWith count (now (words .entry)) at ⌝ }
+    ensures { λ r. ⌜ r ≡ everyIn configAt (configPasses asked (now (words .entry))) (now (words .entry)) (at + (count * 3 + 1)) ⌝ }
 {
-    let configs = at + (count as usize * 3 + 1);
-    contexts_refer_below(words, count, at + 1) & configs_are_valid(words, count, configs)
+    configs_pass(asked, words, at + (count as usize * 3 + 1))
 }
 
-// The same of the continuation at any place.
-fn continuation_is_valid(words: &[u32], at: usize) -> bool
+// Rule 9, of a continuation.
+pub fn continuation_is_valid(words: &[u32], at: usize) -> bool
     ensures { λ r. ⌜ r ≡ continuationGood (now (words .entry)) at ⌝ }
 {
     if words.len() <= at {
         return true;
     }
-    continuation_with(words, words[at], at)
-}
-
-// The same of `count` continuations from `at`.
-fn continuation_records_are_valid(words: &[u32], count: u32, at: usize) -> bool
-    ensures { λ r. ⌜ r ≡ every (continuationGood (now (words .entry))) (continuationAt (now (words .entry))) count at ⌝ }
-{
-    let mut left = count;
-    let mut here = at;
-    while 0 < left {
-        if continuation_is_valid(words, here) {
-            match continuation_words::read_continuation(words, here) {
-                Place::Next(p) => {
-                    here = p;
-                    left -= 1;
-                }
-                Place::Refused(_) => {
-                    return false;
-                }
-            }
-        } else {
-            return false;
-        }
+    let count = words[at];
+    if contexts_refer_below(words, count, at + 1) {
+        return configs_behind(Asked::Context(count), words, count, at);
     }
-    true
+    false
 }
 
-// The same of every continuation.
-pub fn continuation_contexts_are_valid(words: &[u32], continuations: usize) -> bool
-    ensures { λ r. ⌜ r ≡ rule9 (now (words .entry)) continuations ⌝ }
+// The flags of a continuation are 0 or 1.
+pub fn continuation_is_plain(words: &[u32], at: usize) -> bool
+    ensures { λ r. ⌜ r ≡ continuationPlain (now (words .entry)) at ⌝ }
 {
-    if words.len() <= continuations {
+    if words.len() <= at {
         return true;
     }
-    continuation_records_are_valid(words, words[continuations], continuations + 1)
+    configs_behind(Asked::Flags, words, words[at], at)
 }

@@ -1,4 +1,4 @@
--- The runs: a row's targets as an array, its classification, and the walk over the runs. Assumes nothing.
+-- The runs: a row's targets as an array, its classification, and the run of a state. Assumes nothing.
 use Prim.Native.Nat.{ℕ, zero, suc, _+_, _-_, _*_, _/_, _%_, _<_, _≤_}
 use native.Mathlib.Numerals.{add-one}
 use native.Mathlib.Omega.{arith}
@@ -19,8 +19,7 @@ use Rattle.ascii_run.specs.Shape.{run, held, answered, Gives}
 use Rattle.ascii_run.specs.Classify.{classification, classified}
 use Rattle.ascii_run.specs.Words.{wordsOf}
 use Rattle.ascii_run.proofs.Answers.{given}
-use Rattle.rules.specs.Rules.{walk, targets, rowOf, runGood, runsGood, rowNumber, stands, classifiedWords}
-use Rattle.rules.proofs.Laws.{past-end}
+use Rattle.rules.specs.Rules.{targets, rowOf, runGood, rowNumber, stands, classifiedWords}
 
 -- The loop that unpacks a row. Its invariant: the targets of the words passed, and behind them those of the words left, are all.
 pub record Unpacked (w : List ℕ) (at : ℕ) (row : List ℕ) (i : ℕ) : Type 0 where
@@ -112,10 +111,3 @@ module _ (w : List ℕ) (s a at : ℕ) where
   no-state {state} h = rw (lt-leb state 65535 h)
 
 pub ruleset standing = (needs, run-judged, no-state)
-
--- Past the end there are no runs.
-pub runs-unlisted : (w : List ℕ) (s a at : ℕ) → length w ≤ at → true ≡ runsGood w s a 0 (getD w at 0) (at + 1)
-unfolding walk
-runs-unlisted w s a at h = rw (← past-end w at h)
-
-pub ruleset running = (needs, runs-unlisted)

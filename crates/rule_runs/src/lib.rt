@@ -1,15 +1,13 @@
-// Index rule 4: each run is the classification of its state's row.
+// What index rule 4 asks of a run: it is the classification of its state's row.
 // It works on the words and the places of the sections' counts; a word past the end is 0, so every function takes any place.
 ghost use mathlib.Core.Path.{_≡_};
-ghost use Rattle.rules.specs.Rules.{rowOf, rowNumber, classifiedWords, stands, runGood, runsGood, rule4};
+ghost use Rattle.rules.specs.Rules.{rowOf, rowNumber, classifiedWords, stands, runGood};
 use ascii_run::Answered;
 use ascii_run::Run;
 use ascii_run::RunWords;
 use rules::word_at;
 use rules::word_past;
-use words::Place;
 
-// Rule 4: each run is the classification of its state's row.
 // Row `index` of the ASCII rows: two targets to a word, that of the even symbol in the low half.
 fn row_of(words: &[u32], ascii_rows: usize, index: u32) -> [u16; 128]
     ensures { λ r. ⌜ r ≡ rowOf (now (words .entry)) «ascii_rows» index ⌝ }
@@ -62,8 +60,14 @@ fn row_number(words: &[u32], states: usize, state: u32) -> u32
     word_past(words, states, 1 + 4 * state as usize)
 }
 
-// The run at a place is that of a state; a state's number has 16 bits.
-fn run_is_classified(words: &[u32], states: usize, ascii_rows: usize, state: u32, at: usize) -> bool
+// Rule 4: the run at a place is that of a state; a state's number has 16 bits.
+pub fn run_is_classified(
+    words: &[u32],
+    states: usize,
+    ascii_rows: usize,
+    state: u32,
+    at: usize,
+) -> bool
     ensures { λ r. ⌜ r ≡ runGood (now (words .entry)) states «ascii_rows» state at ⌝ }
 {
     if state <= 65535 {
@@ -72,46 +76,4 @@ fn run_is_classified(words: &[u32], states: usize, ascii_rows: usize, state: u32
         return stands(words, at, run);
     }
     false
-}
-
-// `count` runs from `at` are those of the first states.
-fn run_records_are_classified(
-    words: &[u32],
-    states: usize,
-    ascii_rows: usize,
-    count: u32,
-    at: usize,
-) -> bool
-    ensures { λ r. ⌜ r ≡ runsGood (now (words .entry)) states «ascii_rows» 0 count at ⌝ }
-{
-    let mut state: u32 = 0;
-    let mut left = count;
-    let mut here = at;
-    while 0 < left {
-        if run_is_classified(words, states, ascii_rows, state, here) {
-            match run_words::read_run(words, here) {
-                Place::Next(p) => {
-                    here = p;
-                    state += 1;
-                    left -= 1;
-                }
-                Place::Refused(_) => {
-                    return false;
-                }
-            }
-        } else {
-            return false;
-        }
-    }
-    true
-}
-
-// The same of every run.
-pub fn runs_are_classified(words: &[u32], states: usize, runs: usize, ascii_rows: usize) -> bool
-    ensures { λ r. ⌜ r ≡ rule4 (now (words .entry)) states runs «ascii_rows» ⌝ }
-{
-    if words.len() <= runs {
-        return true;
-    }
-    run_records_are_classified(words, states, ascii_rows, words[runs], runs + 1)
 }

@@ -1,13 +1,12 @@
--- The tests of a mode and of a state, by the words that were read, and of the sections that list them. Assumes nothing.
-use Prim.Native.Nat.{ℕ, _+_, _≤_}
+-- The tests of a mode, of a state and of an accept, by the words that were read. Assumes nothing.
+use Prim.Native.Nat.{ℕ, _+_}
 use mathlib.Core.Path.{_≡_, _∙_}
 use mathlib.Core.List.{List}
 use mathlib.Core.Bool.{Bool, _&&_}
 use lib.ListN.{getD}
 use borrow.Author.Needs.{needs}
-use Rattle.words.specs.Records.{modeAt, stateAt}
-use Rattle.rules.specs.Rules.{every, everyIn, good, noneOr, present, startGood, stateGood, rule1, rule2}
-use Rattle.rules.proofs.Laws.{unlisted}
+use Rattle.rules.specs.Rules.{good, noneOr, present, startGood, stateGood}
+use Rattle.rules.specs.Flags.{plain, acceptPlain}
 
 module _ (w : List ℕ) (at : ℕ) where
   pub start-tested : (ns : ℕ) {x : ℕ} {r : Bool} → r ≡ noneOr ns x → x ≡ getD w at 0 → r ≡ startGood ns w at
@@ -18,16 +17,8 @@ module _ (w : List ℕ) (at : ℕ) where
   unfolding stateGood
   state-tested ns na nv nx d e f g h i j k = rw (d, e, f, g, h, i, j, k)
 
-pub ruleset testing = (needs, start-tested, state-tested)
+  pub accept-tested : {x : ℕ} {r : Bool} → r ≡ plain x → x ≡ getD w (at + 1) 0 → r ≡ acceptPlain w at
+  unfolding acceptPlain
+  accept-tested d e = d ∙ (rw e)
 
-module _ (w : List ℕ) where
-  pub starts-listed : (m s : ℕ) {n : ℕ} {r : Bool} → r ≡ every (startGood n w) (modeAt w) (getD w m 0) (m + 1) → n ≡ getD w s 0 → r ≡ rule1 w m s
-  unfolding everyIn
-  starts-listed m s d e = d ∙ (rw e)
-
-  pub states-listed : (s a v x : ℕ) {na nv nx : ℕ} {r : Bool} → r ≡ every (stateGood (getD w s 0) na nv nx w) (stateAt w) (getD w s 0) (s + 1)
-      → na ≡ getD w a 0 → nv ≡ getD w v 0 → nx ≡ getD w x 0 → r ≡ rule2 w s a v x
-  unfolding everyIn
-  states-listed s a v x d e f g = d ∙ (rw (e, f, g))
-
-pub ruleset listing = (needs, unlisted, starts-listed, states-listed)
+pub ruleset testing = (needs, start-tested, state-tested, accept-tested)

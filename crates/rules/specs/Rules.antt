@@ -14,7 +14,7 @@ use Rattle.ascii_run.specs.Classify.{classification}
 use Rattle.ascii_run.specs.Words.{wordsOf}
 use Rattle.words.specs.declared.Place.{Place}
 use Rattle.words.specs.declared.Place.the-variants.{Next, Refused}
-use Rattle.refusal.specs.Fixed.{NONE}
+use Rattle.refusal.specs.Fixed.{NONE, ESCAPE-STATE, DEAD-STATE}
 use Rattle.words.specs.Records.{modeAt, stateAt, runAt, asciiAt, wideAt, escapeAt, configAt, continuationAt}
 
 -- Walks
@@ -37,6 +37,20 @@ every test f n at = walk (λ x p. test p) (λ x p. x) f 0 n at
 unfoldable pub everyIn : (List ℕ → ℕ → Place) → (ℕ → Bool) → List ℕ → ℕ → Bool
 everyIn read test w at = every test (read w) (getD w at 0) (at + 1)
 
+-- the same, judged by its number too, from 0
+abbrev pub numberedIn : (List ℕ → ℕ → Place) → (ℕ → ℕ → Bool) → List ℕ → ℕ → Bool
+numberedIn read test w at = walk test (λ i p. i + 1) (read w) 0 (getD w at 0) (at + 1)
+
+-- on from where a record ends; where its reader refuses, i
+unfoldable pub readOr : ℕ → Place → (ℕ → ℕ) → ℕ
+readOr i (Next p) k = k p
+readOr i (Refused r) k = i
+
+-- how many records pass before the first that does not: i are behind, n are left, and each is read, and judged by its number and its place
+unfoldable pub passing : (ℕ → ℕ → Bool) → (ℕ → Place) → ℕ → ℕ → ℕ → ℕ
+passing test f i zero at = i
+passing test f i (suc n) at = readOr i (f at) (λ p. pick (test i at) (passing test f (i + 1) n p) i)
+
 -- a record of so many words, whatever they are
 abbrev pub sized : ℕ → ℕ → Place
 sized n at = Next (at + n)
@@ -45,7 +59,7 @@ sized n at = Next (at + n)
 
 -- "Good: a state, 65534 or 65535"
 unfoldable pub good : ℕ → ℕ → Bool
-good n x = ltb x n || (eqb x 65534 || eqb x 65535)
+good n x = ltb x n || (eqb x ESCAPE-STATE || eqb x DEAD-STATE)
 
 -- NONE, or one of n
 unfoldable pub noneOr : ℕ → ℕ → Bool

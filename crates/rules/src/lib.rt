@@ -4,6 +4,9 @@ ghost use mathlib.Core.Path.{_≡_};
 ghost use Prim.Native.Nat.{_+_};
 ghost use lib.ListN.{getD};
 ghost use Rattle.rules.specs.Rules.{good, noneOr, present};
+ghost use Rattle.rules.specs.Flags.{plain};
+use refusal::DEAD_STATE;
+use refusal::ESCAPE_STATE;
 use refusal::NONE;
 
 // The word at a place, or 0 past the end.
@@ -28,11 +31,11 @@ pub fn word_past(words: &[u32], at: usize, skip: usize) -> u32
     0
 }
 
-// A target is good: a state, 65534 or 65535.
+// A target is good: a state, ESCAPE_STATE or DEAD_STATE.
 pub fn good(states: u32, x: u32) -> bool
     ensures { λ r. ⌜ r ≡ good states x ⌝ }
 {
-    (x < states) | ((x == 65534) | (x == 65535))
+    (x < states) | ((x == ESCAPE_STATE as u32) | (x == DEAD_STATE as u32))
 }
 
 // NONE, or one of `count`.
@@ -47,4 +50,11 @@ pub fn present(count: u32, x: u32) -> bool
     ensures { λ r. ⌜ r ≡ present count x ⌝ }
 {
     x < count
+}
+
+// A flag is plain: 0 or 1.
+pub fn plain(x: u32) -> bool
+    ensures { λ r. ⌜ r ≡ plain x ⌝ }
+{
+    x <= 1
 }

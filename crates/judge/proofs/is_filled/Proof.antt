@@ -9,7 +9,7 @@ is-filled-spec =
     tie.close
     (tie.spec
     (λ c κs. (search within, (search within, (search within, (search within, (search within, (search within, (search within, search within))))))))
-    (λ c κs. (search filling, search filling))
+    (λ c κs. search filling)
     (λ c. search filling)
     (λ c κs. ((search ordering, search ordering), ((search ordering, (search ordering, search ordering)), search filling)))
     (λ c κs. search filling)

@@ -10,5 +10,8 @@ continuation-is-valid-spec =
     (λ c. search ending)
     (λ c. search ending)
     (λ c. search ending)
+    (λ c. search ending)
     (λ c κs. search ending)
+    (λ c κs. search ending)
+    (λ c. search ending)
     (λ c. search ending))

@@ -1,4 +1,5 @@
 -- The tests are the definition's.
+use borrow.Author.Needs.{needs}
 use Rattle.rules.specs.Rules.{good}
 use Rattle.rules.proofs.good.Statement.{statement}
 use Rattle.rules.proofs.good.Tie as tie
@@ -8,4 +9,4 @@ unfolding good
 returns c = cc
 
 pub good-spec : {M : Type 1} → statement M
-good-spec = tie.close (tie.spec returns)
+good-spec = tie.close (tie.spec (λ c. search needs) (λ c. search needs) returns)

@@ -1,0 +1,126 @@
+// What index rules 5, 6 and 8 ask of a row: of one of ASCII targets, of a wide row and of an escape row.
+// Each takes the words and the place of a row; a word past the end is 0, so every function takes any place.
+ghost use mathlib.Core.Path.{_≡_};
+ghost use mathlib.Core.Bool.{_&&_};
+ghost use Prim.Native.Nat.{_+_, _<_, _≤_};
+ghost use lib.ListN.{length, getD};
+ghost use Rattle.rules.specs.Rules.{bothGood, asciiGood, follows, behind, searchable, thirds, wideGood, escapeGood};
+ghost use Rattle.rule_rows.specs.Thirds.{thirdGood, rangeGood};
+use rules::good;
+use rules::none_or;
+use rules::present;
+use rules::word_at;
+use rules::word_past;
+
+// Both targets of the word that stands `skip` words behind a place are good.
+fn word_is_good(words: &[u32], states: u32, at: usize, skip: usize) -> bool
+    ensures { λ r. ⌜ r ≡ bothGood states (getD (now (words .entry)) (at + skip) 0) ⌝ }
+{
+    let x = word_past(words, at, skip);
+    good(states, x % 65536) & good(states, x / 65536)
+}
+
+// Rule 5: the targets of an ASCII row, 64 words, are good.
+pub fn ascii_row_is_good(words: &[u32], states: u32, at: usize) -> bool
+    ensures { λ r. ⌜ r ≡ asciiGood states (now (words .entry)) at ⌝ }
+{
+    let mut left: usize = 64;
+    let mut skip: usize = 0;
+    while 0 < left {
+        if word_is_good(words, states, at, skip) {
+            skip += 1;
+            left -= 1;
+        } else {
+            return false;
+        }
+    }
+    true
+}
+
+// A word as a number that one more still fits.
+fn wide(x: u32) -> u64
+    ensures { λ r. ⌜ (r ≡ x) × (r < 4294967296) ⌝ }
+{
+    x as u64
+}
+
+// The range at a place starts at `from` or later, and its low is at most its high.
+fn follows(words: &[u32], from: u64, at: usize) -> bool
+    ensures { λ r. ⌜ r ≡ follows (now (words .entry)) from at ⌝ }
+{
+    let low = word_at(words, at);
+    let high = word_past(words, at, 1);
+    (from <= wide(low)) & (low <= high)
+}
+
+// Where the range behind the one at a place may start.
+fn behind(words: &[u32], at: usize) -> u64
+    ensures { λ r. ⌜ r ≡ behind (now (words .entry)) at ⌝ }
+{
+    wide(word_past(words, at, 1)) + 1
+}
+
+// The third number of a range: a target, judged by how many states there are; or a continuation, by how many of these.
+enum Third {
+    Target(u32),
+    Continuation(u32),
+}
+
+// The third number of the range at a place is good, or present.
+fn third_is_good(third: Third, words: &[u32], at: usize) -> bool
+    ensures { λ r. ⌜ r ≡ thirdGood third (getD (now (words .entry)) (at + 2) 0) ⌝ }
+{
+    match third {
+        Third::Target(states) => good(states, word_past(words, at, 2)),
+        Third::Continuation(continuations) => present(continuations, word_past(words, at, 2)),
+    }
+}
+
+// The range at a place follows, and its third number is good.
+fn range_is_good(third: Third, words: &[u32], from: u64, at: usize) -> bool
+    ensures { λ r. ⌜ r ≡ rangeGood third (now (words .entry)) from at ⌝ }
+{
+    follows(words, from, at) & third_is_good(third, words, at)
+}
+
+// `count` ranges from `at` are searchable, low at most high, each high below the next low, and their third numbers are good.
+fn ranges_are_good(third: Third, words: &[u32], count: u32, at: usize) -> bool
+    requires { ⌜ at ≤ length (now words) + 1 ⌝ }
+    ensures { λ r. ⌜ r ≡ (searchable (now (words .entry)) 0 count at && thirds (thirdGood third) (now (words .entry)) count at) ⌝ }
+{
+    let mut left = count;
+    let mut from: u64 = 0;
+    let mut here = at;
+    while 0 < left {
+        if range_is_good(third, words, from, here) {
+            from = behind(words, here);
+            here += 3;
+            left -= 1;
+        } else {
+            return false;
+        }
+    }
+    true
+}
+
+// Rule 6: a wide row is searchable, its targets good.
+pub fn wide_row_is_searchable(words: &[u32], states: u32, at: usize) -> bool
+    ensures { λ r. ⌜ r ≡ wideGood states (now (words .entry)) at ⌝ }
+{
+    if words.len() <= at {
+        return true;
+    }
+    ranges_are_good(Third::Target(states), words, words[at], at + 1)
+}
+
+// Rule 8: an escape row is searchable, its EOF continuation is NONE or present, its continuations are present.
+pub fn escape_row_is_valid(words: &[u32], continuations: u32, at: usize) -> bool
+    ensures { λ r. ⌜ r ≡ escapeGood continuations (now (words .entry)) at ⌝ }
+{
+    if words.len() <= at {
+        return none_or(continuations, 0);
+    }
+    let count = word_at(words, at + 1);
+    let ranges = ranges_are_good(Third::Continuation(continuations), words, count, at + 2);
+    none_or(continuations, words[at]) & ranges
+}

@@ -1,0 +1,11 @@
+-- The rule asks its question of each record.
+use Rattle.rule_walk.proofs.Asking.{asking}
+use Rattle.rule_walk.proofs.continuation_contexts_are_valid.Statement.{statement}
+use Rattle.rule_walk.proofs.continuation_contexts_are_valid.Tie as tie
+
+pub continuation-contexts-are-valid-spec : {M : Type 1} → statement M
+continuation-contexts-are-valid-spec =
+    tie.close
+    (tie.spec
+    (λ c κs. search asking)
+    (λ c. search asking))

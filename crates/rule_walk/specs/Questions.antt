@@ -1,0 +1,27 @@
+-- The questions by name: what is asked of a record, and of each of a section. Assumes nothing.
+use Prim.Native.Nat.{ℕ}
+use mathlib.Core.List.{List}
+use mathlib.Core.Bool.{Bool}
+use Rattle.records.specs.declared.Kind.{Kind}
+use Rattle.records.specs.Kinds.{recordAt}
+use Rattle.rules.specs.Rules.{numberedIn, startGood, stateGood, runGood, asciiGood, wideGood, escapeGood, continuationGood}
+use Rattle.rules.specs.Flags.{acceptPlain, continuationPlain}
+use Rattle.rule_walk.specs.declared.Question.{Question}
+use Rattle.rule_walk.specs.declared.Question.the-variants.{StartIsState, StateIsValid, RunIsClassified, AsciiRowIsGood, WideRowIsSearchable}
+use Rattle.rule_walk.specs.declared.Question.the-variants.{EscapeRowIsValid, ContinuationIsValid, AcceptIsPlain, ContinuationIsPlain}
+
+-- the record of number i passes, at a place
+abbrev pub passes : Question → List ℕ → ℕ → ℕ → Bool
+passes (StartIsState ns) w i = startGood ns w
+passes (StateIsValid ns na nv nx) w i = stateGood ns na nv nx w
+passes (RunIsClassified s a) w i = runGood w s a i
+passes (AsciiRowIsGood ns) w i = asciiGood ns w
+passes (WideRowIsSearchable ns) w i = wideGood ns w
+passes (EscapeRowIsValid nc) w i = escapeGood nc w
+passes ContinuationIsValid w i = continuationGood w
+passes AcceptIsPlain w i = acceptPlain w
+passes ContinuationIsPlain w i = continuationPlain w
+
+-- each record of the section at `at` does
+abbrev pub allPass : Kind → Question → List ℕ → ℕ → Bool
+allPass k q w at = numberedIn (recordAt k) (passes q w) w at
