@@ -15,7 +15,8 @@ use Rattle.refusal.specs.Fixed.{NONE}
 use Rattle.written.specs.Over.{Put}
 use Rattle.pools.specs.declared.Interned.{Interned}
 use Rattle.pools.specs.declared.Interned.the-variants.{At, Refused}
-use Rattle.pools.specs.Pools.{Kind, ascii, wide, standing, rowsFrom, behind, inThrees, good, countable, append, firstIn, findOrAppend, intern, said, Interns}
+use Rattle.pools.specs.Pools.{Kind, ascii, wide, standing, rowsFrom, behind, inThrees, good, countable}
+use Rattle.pools.specs.Pools.{append, firstIn, findOrAppend, intern, said, Interns}
 use Rattle.pools.proofs.Rows.{threes-length}
 
 -- ascii rows end at a multiple of their size
@@ -36,7 +37,8 @@ module _ (k : Kind) (w : List ℕ) (n : ℕ) (row : List ℕ) {end : ℕ} (b : e
       let q : ltb (length w) (behind k w n 0 + length (standing k row)) ≡ true = lt-ltb (length w) (behind k w n 0 + length (standing k row)) (omega arith) in
       rw q (record { says = e; leaves = refl })
 
-  pub append-put : {new : List ℕ} {r : ℕ} → end + length (standing k row) ≤ length w → Put (standing k row) end w r new → Interns (At n) w new (append k w n row)
+  pub append-put : {new : List ℕ} {r : ℕ} → end + length (standing k row) ≤ length w → Put (standing k row) end w r new →
+      Interns (At n) w new (append k w n row)
   unfolding append
   append-put h p =
       let q : ltb (length w) (behind k w n 0 + length (standing k row)) ≡ false = le-ltb (length w) (behind k w n 0 + length (standing k row)) (omega arith) in
@@ -81,7 +83,8 @@ module _ (w : List ℕ) (n : ℕ) where
   ascii-within h = omega (arith, ascii-end w n)
 
   module _ (row : List ℕ) where
-    pub ascii-room : {r : Interned} → n * 128 ≤ length w → length row ≡ 128 → length w - n * 128 < 128 → said r ≡ no ROOM 0 → Interns r w w (append ascii w n row)
+    pub ascii-room : {r : Interned} → n * 128 ≤ length w → length row ≡ 128 → length w - n * 128 < 128 → said r ≡ no ROOM 0 →
+        Interns r w w (append ascii w n row)
     ascii-room h l t e = append-room ascii w n row (ascii-end w n) (omega arith) e
 
     pub ascii-put : {new : List ℕ} {r : ℕ} → n * 128 ≤ length w → length row ≡ 128 → 128 ≤ length w - n * 128 → Put row (n * 128) w r new →

@@ -24,6 +24,10 @@ use Rattle.pools.specs.Pools.{Kind, ascii, wide, sizeAt, rowsFrom, behin
 unfoldable pub sameFrom : ℕ → List ℕ → ℕ → List ℕ → ℕ → Bool
 sameFrom n w at row j = sameList (take (n - j) (drop (at + j) w)) (drop j row)
 
+-- the loop's invariant: what is left to compare gives what all gives
+abbrev pub Comparing : ℕ → List ℕ → ℕ → List ℕ → ℕ → Type 0
+Comparing n w at row j = (j ≤ length row) × (sameFrom n w at row j ≡ sameList (take n (drop at w)) row)
+
 pub same-begins : (n : ℕ) (w : List ℕ) (at : ℕ) (row : List ℕ) → sameFrom n w at row 0 ≡ sameList (take n (drop at w)) row
 unfolding sameFrom
 same-begins n w at row = rw (sub-zero, add-zero)
@@ -99,6 +103,11 @@ module _ (k : Kind) (w : List ℕ) (left at : ℕ) {e : ℕ} (b : behind k w lef
 
   pub rows-within : {next : ℕ} → 0 < left → next ≡ at + sizeAt k w at → behind k w (left - 1) next ≤ e
   rows-within h n = rw (n, ← behind-open k w left at h) b
+
+-- the loop's invariant: the first equal row stands as far behind as it does from here
+abbrev pub Finding : Kind → List ℕ → ℕ → List ℕ → ℕ → ℕ → ℕ → Type 0
+Finding k w rows row left at i =
+    (i + firstEqual row (rowsFrom k w left at) ≡ firstEqual row (rowsFrom k w rows 0)) × (behind k w left at ≤ length w) × (i + left ≤ rows)
 
 module _ (k : Kind) (w row : List ℕ) (left at i : ℕ) {all : ℕ} (g : i + firstEqual row (rowsFrom k w left at) ≡ all) where
   pub first-here : {t : Bool} → 0 < left → t ≡ sameList (take (sizeAt k w at) (drop at w)) row → t ≡ true → i ≡ all
@@ -209,6 +218,10 @@ threes-length (x ∷ y ∷ z ∷ l) e =
     omega arith
 
 -- A row that is copied
+
+-- the loop's invariant: what is left of the row, written from here, gives what all of it gives
+abbrev pub Copying : List ℕ → ℕ → List ℕ → ℕ → ℕ → List ℕ → Type 0
+Copying row at old i m out = (i ≤ length row) × Going row at old (drop i row) m out
 
 module _ (row : List ℕ) (i : ℕ) {n : ℕ} {old : List ℕ} {m : ℕ} {out : List ℕ} (g : Going row n old (drop i row) m out) where
   rest-open : i < length row → drop i row ≡ getD row i 0 ∷ drop (i + 1) row

@@ -28,7 +28,8 @@ fn interned_in_c(interned: Interned) -> CInterned
 // Interns a row of 128 targets.
 #[no_mangle]
 pub extern "C" fn lexer_dfa_intern_ascii(pool: &mut [u16], rows: usize, row: &[u16]) -> CInterned
-    ensures { λ r. ⌜ (r ≡ internedInC (pooling.outcomeSaid (pooling.intern ascii (now (pool .entry)) rows (now (row .entry))))) × (now (pool .exit) ≡ pooling.leftIn (now (pool .entry)) (pooling.intern ascii (now (pool .entry)) rows (now (row .entry)))) ⌝ }
+    ensures { λ r. ⌜ (r ≡ internedInC (pooling.outcomeSaid (pooling.intern ascii (now (pool .entry)) rows (now (row .entry)))))
+        × (now (pool .exit) ≡ pooling.leftIn (now (pool .entry)) (pooling.intern ascii (now (pool .entry)) rows (now (row .entry)))) ⌝ }
 {
     interned_in_c(ascii_pool::intern_ascii(pool, rows, row))
 }
@@ -36,7 +37,8 @@ pub extern "C" fn lexer_dfa_intern_ascii(pool: &mut [u16], rows: usize, row: &[u
 // Interns a row of ranges, three numbers each.
 #[no_mangle]
 pub extern "C" fn lexer_dfa_intern_wide(pool: &mut [u32], rows: usize, row: &[u32]) -> CInterned
-    ensures { λ r. ⌜ (r ≡ internedInC (pooling.outcomeSaid (pooling.intern wide (now (pool .entry)) rows (now (row .entry))))) × (now (pool .exit) ≡ pooling.leftIn (now (pool .entry)) (pooling.intern wide (now (pool .entry)) rows (now (row .entry)))) ⌝ }
+    ensures { λ r. ⌜ (r ≡ internedInC (pooling.outcomeSaid (pooling.intern wide (now (pool .entry)) rows (now (row .entry)))))
+        × (now (pool .exit) ≡ pooling.leftIn (now (pool .entry)) (pooling.intern wide (now (pool .entry)) rows (now (row .entry)))) ⌝ }
 {
     interned_in_c(wide_pool::intern_wide(pool, rows, row))
 }

@@ -1,16 +1,11 @@
 -- The first equal row stands as far behind as it does from here.
-use Prim.Native.Nat.{_+_, _≤_}
-use mathlib.Core.Path.{_≡_}
-use lib.ListN.{length}
-use Rattle.refusal.specs.Lists.{firstEqual}
-use Rattle.pools.specs.Pools.{ascii, rowsFrom, behind}
-use Rattle.pools.proofs.Rows.{finding}
+use Rattle.pools.specs.Pools.{ascii}
+use Rattle.pools.proofs.Rows.{Finding, finding}
 use Rattle.ascii_pool.proofs.first_equal.Statement.{statement}
 use Rattle.ascii_pool.proofs.first_equal.Tie as tie
 
 abbrev Inv-loop : tie.InvT-loop
-Inv-loop pool rows row left₀ at₀ i₀ left at i =
-    (i + firstEqual row (rowsFrom ascii pool left at) ≡ firstEqual row (rowsFrom ascii pool rows 0)) × (behind ascii pool left at ≤ length pool) × (i + left ≤ rows)
+Inv-loop pool rows row left₀ at₀ i₀ left at i = Finding ascii pool rows row left at i
 
 abbrev μ-loop : tie.MeasureT-loop
 μ-loop pool rows row left₀ at₀ i₀ left at i = left

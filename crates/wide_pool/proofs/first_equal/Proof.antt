@@ -1,17 +1,12 @@
 -- The first equal row stands as far behind as it does from here.
-use Prim.Native.Nat.{_+_, _≤_}
-use mathlib.Core.Path.{_≡_}
 use mathlib.Core.List.{_∷_}
-use lib.ListN.{length}
-use Rattle.refusal.specs.Lists.{firstEqual}
-use Rattle.pools.specs.Pools.{wide, rowsFrom, behind}
-use Rattle.pools.proofs.Rows.{finding}
+use Rattle.pools.specs.Pools.{wide}
+use Rattle.pools.proofs.Rows.{Finding, finding}
 use Rattle.wide_pool.proofs.first_equal.Statement.{statement}
 use Rattle.wide_pool.proofs.first_equal.Tie as tie
 
 abbrev Inv-loop : tie.InvT-loop
-Inv-loop pool rows count row left₀ at₀ i₀ left at i =
-    (i + firstEqual (count ∷ row) (rowsFrom wide pool left at) ≡ firstEqual (count ∷ row) (rowsFrom wide pool rows 0)) × (behind wide pool left at ≤ length pool) × (i + left ≤ rows)
+Inv-loop pool rows count row left₀ at₀ i₀ left at i = Finding wide pool rows (count ∷ row) left at i
 
 abbrev μ-loop : tie.MeasureT-loop
 μ-loop pool rows count row left₀ at₀ i₀ left at i = left
