@@ -4,6 +4,7 @@ ghost use mathlib.Core.Bool.{_&&_, _||_};
 ghost use Prim.Native.Nat.{suc, max};
 ghost use lib.Dec.{eqb, ltb};
 ghost use Rattle.row_edges.specs.Edges.{noGoal, firstOf};
+use refusal::DEAD_STATE;
 use refusal::NONE;
 
 // Does a range that starts at `next` lie right behind a high, with the same goal?
@@ -28,7 +29,7 @@ pub fn unseen(escape: bool, high: u32, goal: u32) -> bool
     if high < 128 {
         return true;
     }
-    goal == 65535
+    goal == DEAD_STATE as u32
 }
 
 // A row of targets begins at 128.

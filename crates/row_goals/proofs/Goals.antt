@@ -9,7 +9,7 @@ use borrow.Author.Needs.{needs}
 use borrow.Author.Tests.{eq-eqb, ne-eqb}
 use lib.ListN.{length, getD, List·getD-eq-default}
 use Rattle.refusal.specs.Fixed.{NONE}
-use Rattle.row_goals.specs.Goals.{goalOf, differs, refusalOf}
+use Rattle.row_goals.specs.Goals.{targetAt, goalOf, differs, refusalOf}
 
 -- What a place was given
 
@@ -18,30 +18,24 @@ getD-any [] k a b h = absurd (not-suc-le-zero h)
 getD-any (x ∷ l) zero a b h = refl
 getD-any (x ∷ l) (suc k) a b h = getD-any l k a b (omega arith)
 
-module _ (l : List ℕ) (k : ℕ) where
-  pub given-target : k < length l → getD l k 0 ≡ getD l k 65535
-  given-target h = getD-any l k 0 65535 h
+module _ (l : List ℕ) (k d : ℕ) where
+  pub given-there : k < length l → getD l k 0 ≡ getD l k d
+  given-there h = getD-any l k 0 d h
 
-  pub given-none : length l ≤ k → 65535 ≡ getD l k 65535
-  given-none h = sym (List·getD-eq-default l 65535 h)
+  pub given-none : length l ≤ k → d ≡ getD l k d
+  given-none h = sym (List·getD-eq-default l d h)
 
-  pub given-cont : k < length l → getD l k 0 ≡ getD l k 4294967295
-  given-cont h = getD-any l k 0 4294967295 h
+pub ruleset giving = (needs, given-there, given-none)
 
-  pub given-no-cont : length l ≤ k → 4294967295 ≡ getD l k 4294967295
-  given-no-cont h = sym (List·getD-eq-default l 4294967295 h)
+module _ (e : Bool) (ts cs : List ℕ) (k : ℕ) {x : ℕ} (t : x ≡ targetAt ts k) where
+  pub goal-dead : e ≡ true → x ≡ 65535 → NONE ≡ goalOf e ts cs k
+  goal-dead h d = rw (h, eq-eqb (targetAt ts k) 65535 (sym t ∙ d))
 
-pub ruleset giving = (needs, given-target, given-none, given-cont, given-no-cont)
+  pub goal-cont : {r : ℕ} → e ≡ true → (x ≡ 65535 → ⊥) → r ≡ getD cs k NONE → r ≡ goalOf e ts cs k
+  goal-cont h d c = rw (h, ne-eqb (targetAt ts k) 65535 (λ i. d (t ∙ i))) c
 
-module _ (e : Bool) (ts cs : List ℕ) (k : ℕ) {x g : ℕ} (t : x ≡ getD ts k 65535) (n : g ≡ x) where
-  pub goal-dead : e ≡ true → g ≡ 65535 → NONE ≡ goalOf e ts cs k
-  goal-dead h d = rw (h, eq-eqb (getD ts k 65535) 65535 (sym (n ∙ t) ∙ d))
-
-  pub goal-cont : {r : ℕ} → e ≡ true → (g ≡ 65535 → ⊥) → r ≡ getD cs k 4294967295 → r ≡ goalOf e ts cs k
-  goal-cont h d c = rw (h, ne-eqb (getD ts k 65535) 65535 (λ i. d (n ∙ t ∙ i))) c
-
-  pub goal-target : e ≡ false → g ≡ goalOf e ts cs k
-  goal-target h = rw h (n ∙ t)
+  pub goal-target : {r : ℕ} → e ≡ false → r ≡ x → r ≡ goalOf e ts cs k
+  goal-target h n = rw h (n ∙ t)
 
 pub ruleset aiming = (needs, goal-dead, goal-cont, goal-target)
 

@@ -1,7 +1,8 @@
 // What row building asks of one segment or of one call: the goal that a place was given, and what stands in the way of the rows.
 ghost use mathlib.Core.Path.{_≡_};
 ghost use lib.ListN.{getD};
-ghost use Rattle.row_goals.specs.Goals.{goalOf, differs, refusalOf};
+ghost use Rattle.refusal.specs.Fixed.{NONE};
+ghost use Rattle.row_goals.specs.Goals.{targetAt, goalOf, differs, refusalOf};
 use refusal::DEAD_STATE;
 use refusal::NONE;
 use refusal::ROOM;
@@ -9,7 +10,7 @@ use refusal::TARGETS;
 
 // What a place among the distinct masks was given; behind the last, nothing was.
 pub fn target_at(targets: &[u16], place: u32) -> u16
-    ensures { λ r. ⌜ r ≡ getD (now (targets .entry)) place 65535 ⌝ }
+    ensures { λ r. ⌜ r ≡ targetAt (now (targets .entry)) place ⌝ }
 {
     let k = place as usize;
     if k < targets.len() {
@@ -19,7 +20,7 @@ pub fn target_at(targets: &[u16], place: u32) -> u16
 }
 
 fn continuation_at(continuations: &[u32], place: u32) -> u32
-    ensures { λ r. ⌜ r ≡ getD (now (continuations .entry)) place 4294967295 ⌝ }
+    ensures { λ r. ⌜ r ≡ getD (now (continuations .entry)) place NONE ⌝ }
 {
     let k = place as usize;
     if k < continuations.len() {
@@ -38,14 +39,14 @@ fn number(x: u16) -> u32
 pub fn goal_of(targets: &[u16], continuations: &[u32], escape: bool, place: u32) -> u32
     ensures { λ r. ⌜ r ≡ goalOf escape (now (targets .entry)) (now (continuations .entry)) place ⌝ }
 {
-    let target = number(target_at(targets, place));
+    let target = target_at(targets, place);
     if escape {
-        if target == 65535 {
+        if target == DEAD_STATE {
             return NONE;
         }
         return continuation_at(continuations, place);
     }
-    target
+    number(target)
 }
 
 // Do targets or continuations differ in number from the d distinct masks?

@@ -9,4 +9,5 @@ unseen-spec =
     (tie.spec
     (λ c. search seeing)
     (λ c. search seeing)
+    (λ c. search seeing)
     (λ c. search seeing))

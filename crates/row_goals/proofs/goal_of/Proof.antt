@@ -8,8 +8,8 @@ goal-of-spec =
     tie.close
     (tie.spec
     (λ c κs. search aiming)
-    (λ c κs. search aiming)
     (λ c. search aiming)
     (λ c κs. search aiming)
     (λ c. search aiming)
+    (λ c κs. search aiming)
     (λ c. search aiming))
