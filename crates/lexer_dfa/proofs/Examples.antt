@@ -34,13 +34,13 @@ use Rattle.masks.specs.Answer.{parseMasks, parseDistinct, masksIn}
 use Rattle.table.specs.Table.{each}
 use Rattle.lookup_laws.specs.Looks.{goalAt}
 use Rattle.row_laws.specs.Row.{rowFrom, rowOver, joinTo, join, partFrom, values}
-use Rattle.row_laws.specs.Build.{given, targetRow, contRow}
+use Rattle.row_laws.specs.Build.{given, rowOf}
 use Rattle.rows.specs.Answer as of-rows
 use Rattle.rows.specs.Answer.{withRows, asciiIn, wideIn}
 use Rattle.lexer_dfa.specs.Sheet.{_says_, transitions, Right, rowOn, sheet}
 
 pub sheet-right : Right sheet
-unfolding rowOn upFrom some before joined rangesFrom upToFour inRanges held exitsFrom byRanges byExits classified stops scanSaid lists.every orField shortRun readAt fields any target start block word andThen many section both onward layoutOf laidOut decodedFrom judged everyFrom walk every everyIn good noneOr present stateGood targets classifiedWords stands runGood bothGood wideGood escapeGood firstBroken padded anyHas holds holdAt orderly inOrder clip clips gaps intervals allIntervals sizeAt numberAt pairsAt shapeOf transOf bodyAt recordAt more of-list.onward parseFrom insert cutSpans cutAll cutsOf cuts.starts startsFrom cuts.segments segmentsFrom of-segments.counted parseFor segmentsIn wordOf pack maskOf masksAt flat isZero sameList firstEqual addNew distinct of-masks.counted parseMasks parseDistinct masksIn each goalAt rowFrom rowOver joinTo join partFrom values given targetRow contRow of-rows.counted withRows asciiIn wideIn
+unfolding rowOn upFrom some before joined rangesFrom upToFour inRanges held exitsFrom byRanges byExits classified stops scanSaid lists.every orField shortRun readAt fields any target start block word andThen many section both onward layoutOf laidOut decodedFrom judged everyFrom walk every everyIn good noneOr present stateGood targets classifiedWords stands runGood bothGood wideGood escapeGood firstBroken padded anyHas holds holdAt orderly inOrder clip clips gaps intervals allIntervals sizeAt numberAt pairsAt shapeOf transOf bodyAt recordAt more of-list.onward parseFrom insert cutSpans cutAll cutsOf cuts.starts startsFrom cuts.segments segmentsFrom of-segments.counted parseFor segmentsIn wordOf pack maskOf masksAt flat isZero sameList firstEqual addNew distinct of-masks.counted parseMasks parseDistinct masksIn each goalAt rowFrom rowOver joinTo join partFrom values given rowOf of-rows.counted withRows asciiIn wideIn
 sheet-right = (refl, (refl, (refl, (refl, (refl, (refl, (refl, (refl, (refl, (refl, (refl, (refl, (refl, (refl, (refl, (refl, (refl, tt)))))))))))))))))
 
 -- "256 transitions pass; 257: 4": so many wildcards

@@ -19,8 +19,8 @@ use Rattle.segments.specs.Segments.{Asc, cutsOf, starts}
 use Rattle.masks.specs.Masks.{pack, wordsFor, maskOf, masksAt, isZero, index, distinctOf}
 use Rattle.masks.proofs.Keeps.{Has}
 use Rattle.lookup_laws.specs.Looks.{goalAt}
-use Rattle.row_laws.specs.Row.{Row, DEAD, rowOver, partFrom, targetIn, Sorted}
-use Rattle.row_laws.specs.Build.{given, targetOf, contOf, targetRow, contRow, asciiOf, wideOf, escapeOf}
+use Rattle.row_laws.specs.Row.{Row, DEAD, partFrom, targetIn, Sorted}
+use Rattle.row_laws.specs.Build.{given, targetOf, contOf, rowOf, targetRow, contRow, asciiOf, wideOf, escapeOf}
 use Rattle.row_laws.proofs.Searches.{Upto}
 use Rattle.row_laws.proofs.Joins.{Live, look-join}
 use Rattle.row_laws.proofs.Parts.{look-part, sorted-part, getD-values}
@@ -87,55 +87,42 @@ module _ (ts : List Transition) where
   pub mask-none : AllInOrder ts → (p : ℕ) → p < points → Outside (cutsOf ts) p → isZero (maskOf ts p) ≡ true
   mask-none a p h o = ap isZero (mask-is a p h) ∙ span-none p o
 
-  -- SAMPLING, over masks: the row of what v gives each segment's mask answers v of each point's mask
-  look-masks : (d : ℕ) (v : List ℕ → ℕ) → ((m : List ℕ) → isZero m ≡ true → v m ≡ d) → AllInOrder ts → (p : ℕ) → p < points →
-      goalAt d (rowOver d (λ p. v (maskOf ts p)) (cutsOf ts)) p ≡ v (maskOf ts p)
-  look-masks d v z a p h =
-      ap (λ (rs : Row). goalAt d rs p)
-      (same-over d (λ p. v (maskOf ts p)) (λ p. v (spanMask p)) (cutsOf ts) (λ x i. ap v (mask-is a x (starts-below points (cutsOf ts) x asc-cuts le-cuts i))))
-      ∙ look-over d (λ p. v (spanMask p)) (cutsOf ts) asc-cuts (stepped d v z) p
-      ∙ ap v (sym (mask-is a p h))
+  -- What either row is, before it is parted and joined: v gives the goals, and d is left out
 
-  -- what the rows are, before they are parted and joined
-  pub sorted-targets : (targets : List ℕ) → Sorted 0 (targetRow ts targets)
-  unfolding targetRow
-  sorted-targets targets = sorted-over DEAD _ (cutsOf ts) asc-cuts
+  module _ (d : ℕ) (v : List ℕ → ℕ) where
+    pub sorted-row : Sorted 0 (rowOf d v ts)
+    unfolding rowOf
+    sorted-row = sorted-over d _ (cutsOf ts) asc-cuts
 
-  pub live-targets : (targets : List ℕ) → Live DEAD (targetRow ts targets)
-  unfolding targetRow
-  live-targets targets = live-over DEAD (λ p. targetOf ts targets (maskOf ts p)) (cutsOf ts)
+    pub live-row : Live d (rowOf d v ts)
+    unfolding rowOf
+    live-row = live-over d (λ p. v (maskOf ts p)) (cutsOf ts)
 
-  pub upto-targets : (targets : List ℕ) → Upto 1114111 (targetRow ts targets)
-  unfolding targetRow
-  upto-targets targets = upto-over 1114111 DEAD (λ p. targetOf ts targets (maskOf ts p)) (cutsOf ts) le-cuts
+    pub upto-row : Upto 1114111 (rowOf d v ts)
+    unfolding rowOf
+    upto-row = upto-over 1114111 d (λ p. v (maskOf ts p)) (cutsOf ts) le-cuts
 
-  pub sorted-conts : (targets conts : List ℕ) → Sorted 0 (contRow ts targets conts)
-  unfolding contRow
-  sorted-conts targets conts = sorted-over NONE _ (cutsOf ts) asc-cuts
-
-  pub live-conts : (targets conts : List ℕ) → Live NONE (contRow ts targets conts)
-  unfolding contRow
-  live-conts targets conts = live-over NONE (λ p. contOf ts targets conts (maskOf ts p)) (cutsOf ts)
-
-  pub upto-conts : (targets conts : List ℕ) → Upto 1114111 (contRow ts targets conts)
-  unfolding contRow
-  upto-conts targets conts = upto-over 1114111 NONE (λ p. contOf ts targets conts (maskOf ts p)) (cutsOf ts) le-cuts
+    -- SAMPLING, over masks: the row of what v gives each segment's mask answers v of each point's mask
+    look-row : ((m : List ℕ) → isZero m ≡ true → v m ≡ d) → AllInOrder ts → (p : ℕ) → p < points → goalAt d (rowOf d v ts) p ≡ v (maskOf ts p)
+    unfolding rowOf
+    look-row z a p h =
+        ap (λ (rs : Row). goalAt d rs p)
+        (same-over d (λ p. v (maskOf ts p)) (λ p. v (spanMask p)) (cutsOf ts)
+        (λ x i. ap v (mask-is a x (starts-below points (cutsOf ts) x asc-cuts le-cuts i))))
+        ∙ look-over d (λ p. v (spanMask p)) (cutsOf ts) asc-cuts (stepped d v z) p
+        ∙ ap v (sym (mask-is a p h))
 
   look-targets : (targets : List ℕ) → AllInOrder ts → (p : ℕ) → p < points → goalAt DEAD (targetRow ts targets) p ≡ targetOf ts targets (maskOf ts p)
-  unfolding targetRow
-  look-targets targets = look-masks DEAD (λ m. targetOf ts targets m) (λ m z. given-none DEAD (distinctOf ts) targets m z)
-
-  look-conts : (targets conts : List ℕ) → AllInOrder ts → (p : ℕ) → p < points → goalAt NONE (contRow ts targets conts) p ≡ contOf ts targets conts (maskOf ts p)
-  unfolding contRow
-  look-conts targets conts = look-masks NONE (λ m. contOf ts targets conts m) (λ m z. cont-none ts targets conts m z)
+  look-targets targets = look-row DEAD (targetOf ts targets) (given-none DEAD (distinctOf ts) targets)
 
   -- the target at a point
-  pub target-law : (targets : List ℕ) → AllInOrder ts → (p : ℕ) → p < points → targetIn (asciiOf ts targets) (wideOf ts targets) p ≡ targetOf ts targets (maskOf ts p)
+  pub target-law : (targets : List ℕ) → AllInOrder ts → (p : ℕ) → p < points →
+      targetIn (asciiOf ts targets) (wideOf ts targets) p ≡ targetOf ts targets (maskOf ts p)
   target-law targets a p h =
       le-cases 128 p
       (λ k.
       rw (le-ltb p 128 k)
-      (look-join DEAD (max 0 128) (partFrom 128 (targetRow ts targets)) p (sorted-part 0 128 (targetRow ts targets) (sorted-targets targets))
+      (look-join DEAD (max 0 128) (partFrom 128 (targetRow ts targets)) p (sorted-part 0 128 (targetRow ts targets) (sorted-row DEAD (targetOf ts targets)))
       ∙ look-part DEAD 128 (targetRow ts targets) p k
       ∙ look-targets targets a p h))
       (λ k.
@@ -143,8 +130,11 @@ module _ (ts : List Transition) where
       (getD-values (goalAt DEAD (targetRow ts targets)) 0 128 p 0 k ∙ ap (goalAt DEAD (targetRow ts targets)) (zero-add p) ∙ look-targets targets a p h))
 
   -- the continuation at a point
-  pub cont-law : (targets conts : List ℕ) → AllInOrder ts → (p : ℕ) → p < points → goalAt NONE (escapeOf ts targets conts) p ≡ contOf ts targets conts (maskOf ts p)
-  cont-law targets conts a p h = look-join NONE 0 (contRow ts targets conts) p (sorted-conts targets conts) ∙ look-conts targets conts a p h
+  pub cont-law : (targets conts : List ℕ) → AllInOrder ts → (p : ℕ) → p < points →
+      goalAt NONE (escapeOf ts targets conts) p ≡ contOf ts targets conts (maskOf ts p)
+  cont-law targets conts a p h =
+      look-join NONE 0 (contRow ts targets conts) p (sorted-row NONE (contOf ts targets conts))
+      ∙ look-row NONE (contOf ts targets conts) (cont-none ts targets conts) a p h
 
   -- The place of a mask
 
@@ -161,5 +151,6 @@ module _ (ts : List Transition) where
       (λ o. absurd (false≢true (sym z ∙ mask-none a p h o)))
       (λ (w : Floor (cutsOf ts) (starts (cutsOf ts)) p).
       let e : maskOf ts p ≡ maskOf ts (w .start) = mask-same a (w .start) (w .next) p h (w .clear) (w .low) (w .high) in
-      rw e (has-distinct [] (masksAt ts (starts (cutsOf ts))) (maskOf ts (w .start)) (sym (ap isZero e) ∙ z) (among (starts (cutsOf ts)) (w .start) (w .is-start))))
+      rw e (has-distinct [] (masksAt ts (starts (cutsOf ts))) (maskOf ts (w .start)) (sym (ap isZero e) ∙ z)
+      (among (starts (cutsOf ts)) (w .start) (w .is-start))))
       (floor (cutsOf ts) p asc-cuts)

@@ -19,7 +19,8 @@ unfolding firstEqual
 has-at [] m h = absurd (omega arith)
 has-at (d ∷ ds) m h = go (sameList d m) refl h (λ k. has-at ds m k)
   where
-    go : (t : Bool) → sameList d m ≡ t → pick t 0 (suc (index ds m)) < suc (length ds) → (Has ds m → getD ds (index ds m) [] ≡ m) → getD (d ∷ ds) (pick t 0 (suc (index ds m))) [] ≡ m
+    go : (t : Bool) → sameList d m ≡ t → pick t 0 (suc (index ds m)) < suc (length ds) → (Has ds m → getD ds (index ds m) [] ≡ m) →
+        getD (d ∷ ds) (pick t 0 (suc (index ds m))) [] ≡ m
     go true e k ih = same-equal d m e
     go false e k ih = ih (omega arith)
 

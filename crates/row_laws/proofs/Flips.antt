@@ -1,4 +1,5 @@
--- DEMAND 3, second part: every point's mask by its segment is the one by the records, so complements place by place flip each bit at every point. Assumes nothing.
+-- DEMAND 3, second part: every point's mask by its segment is the one by the records, so complements place by place flip each bit at every point. Assumes
+-- nothing.
 use Prim.Native.Nat.{ℕ, zero, suc, _-_, _≤_, _<_}
 use mathlib.Core.Path.{_≡_, refl, sym, ap, _∙_}
 use mathlib.Core.Logic.{_⊎_, inl, inr, ⊎-elim}
@@ -8,9 +9,8 @@ use native.Mathlib.Omega.{arith}
 use lib.ListN.{length}
 use borrow.Author.Tests.{lt-ltb, le-ltb, le-leb, lt-leb}
 use Rattle.written.specs.Over.{zeros}
-use Rattle.transitions.specs.Transition.{Transition, points, Complement}
-use Rattle.transitions.specs.Read.{parse, isParsed, accepted}
-use Rattle.transitions.proofs.Accepted.{AllInOrder, listed}
+use Rattle.transitions.specs.Transition.{Transition, points, holdAt, Complement}
+use Rattle.transitions.proofs.Accepted.{AllInOrder}
 use Rattle.transitions.proofs.Order.{le-cases}
 use Rattle.segments.specs.Segments.{Asc, cutsOf}
 use Rattle.masks.specs.Masks.{bit, wordsFor, maskOf}
@@ -83,8 +83,3 @@ flipped ts us a b c p i h l =
     ∙ ap bit (r .1)
     ∙ bit-not (heldBy ts i p)
     ∙ ap (λ (x : ℕ). 1 - x) (sym (ap (λ (m : List ℕ). maskBit m i) (segment-mask ts p a h) ∙ mask-exact ts p i l))
-
--- "If two accepted lists are complements place by place": v and w are their bytes
-pub accepted-flipped : (v w : List ℕ) → isParsed (parse v) ≡ true → isParsed (parse w) ≡ true → Complement (accepted (parse v)) (accepted (parse w)) →
-    Flipped (accepted (parse v)) (accepted (parse w))
-accepted-flipped v w h g = flipped (accepted (parse v)) (accepted (parse w)) (listed v h .order) (listed w g .order)

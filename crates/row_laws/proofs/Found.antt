@@ -1,5 +1,5 @@
--- The search of the rows here is the lookups' own: over a row that stands anywhere in a list of numbers, `found` (room_read) gives what `goalAt` gives, of wide and
--- escape rows alike. Assumes nothing.
+-- The search of the rows here is the lookups' own: over a row that stands anywhere in a list of numbers, `found` (room_read) gives what `goalAt` gives, of wide
+-- and escape rows alike. Assumes nothing.
 use Prim.Native.Nat.{ℕ, _+_}
 use mathlib.Core.Path.{_≡_, refl}
 use mathlib.Core.Bool.{Bool, true, false}
@@ -15,7 +15,8 @@ use Rattle.lookup_laws.specs.Looks.{goalAt}
 use Rattle.row_laws.specs.Row.{Row, numbers}
 
 -- rs stands in w from `at` on, x is a symbol, and d is what is given where no range holds it
-pub found-is : (d : ℕ) (w : List ℕ) (x at : ℕ) (rs : Row) (post : List ℕ) → At w at (numbers rs ++ post) → given (found w x (length rs) at) (λ t. t) d d ≡ goalAt d rs x
+pub found-is : (d : ℕ) (w : List ℕ) (x at : ℕ) (rs : Row) (post : List ℕ) → At w at (numbers rs ++ post) →
+    given (found w x (length rs) at) (λ t. t) d d ≡ goalAt d rs x
 unfolding found given goalAt each
 found-is d w x at [] post a = refl
 found-is d w x at (r ∷ rs) post a =

@@ -15,12 +15,12 @@ use Rattle.transitions.specs.Transition.{Transition}
 use Rattle.segments.specs.Segments.{cutsOf}
 use Rattle.masks.specs.Masks.{maskOf, distinctOf}
 use Rattle.row_laws.specs.Row.{Row, DEAD, Each, grown, join, partFrom}
-use Rattle.row_laws.specs.Build.{given, targetOf, contOf, targetRow, contRow, wideOf, escapeOf}
+use Rattle.row_laws.specs.Build.{given, targetOf, contOf, rowOf, targetRow, contRow, wideOf, escapeOf}
 use Rattle.row_laws.specs.Demand.{OneOf}
 use Rattle.row_laws.proofs.Joins.{Live, each-joinTo}
 use Rattle.row_laws.proofs.Parts.{each-part}
 use Rattle.row_laws.proofs.Sizes.{each-over, each-given}
-use Rattle.row_laws.proofs.Built.{live-targets, live-conts}
+use Rattle.row_laws.proofs.Built.{live-row}
 
 -- left out, or given
 abbrev Known : ℕ → List ℕ → ℕ → Type 0
@@ -41,31 +41,29 @@ unfolding join
 each-join P g [] k = k
 each-join P g (r ∷ rs) k = each-joinTo P g r rs k
 
-each-target : (ts : List Transition) (targets : List ℕ) → Each (λ r. Known DEAD targets (r .goal)) (targetRow ts targets)
-unfolding targetRow
-each-target ts targets =
-    each-over (Known DEAD targets) DEAD (λ p. targetOf ts targets (maskOf ts p))
-    (λ p. each-given (Known DEAD targets) DEAD (distinctOf ts) targets (maskOf ts p) (inl refl) (known DEAD targets)) (cutsOf ts)
+row-given : (ts : List Transition) (d : ℕ) (v : List ℕ → ℕ) (vs : List ℕ) → ((m : List ℕ) → Known d vs (v m)) → Each (λ r. OneOf vs (r .goal)) (rowOf d v ts)
+unfolding rowOf
+row-given ts d v vs k =
+    all-given d vs (rowOf d v ts) (live-row ts d v) (each-over (Known d vs) d (λ p. v (maskOf ts p)) (λ p. k (maskOf ts p)) (cutsOf ts))
 
-each-cont : (ts : List Transition) (targets conts : List ℕ) → Each (λ r. Known NONE conts (r .goal)) (contRow ts targets conts)
-unfolding contRow
-each-cont ts targets conts =
-    each-over (Known NONE conts) NONE (λ p. contOf ts targets conts (maskOf ts p)) (λ p. go (eqb (targetOf ts targets (maskOf ts p)) DEAD) (maskOf ts p)) (cutsOf ts)
-  where
-    go : (t : Bool) (m : List ℕ) → Known NONE conts (pick t NONE (given NONE (distinctOf ts) conts m))
-    go true m = inl refl
-    go false m = each-given (Known NONE conts) NONE (distinctOf ts) conts m (inl refl) (known NONE conts)
+module _ (ts : List Transition) where
+  known-given : (d : ℕ) (vs m : List ℕ) → Known d vs (given d (distinctOf ts) vs m)
+  known-given d vs m = each-given (Known d vs) d (distinctOf ts) vs m (inl refl) (known d vs)
 
-module _ (ts : List Transition) (targets : List ℕ) where
-  targets-given : Each (λ r. OneOf targets (r .goal)) (targetRow ts targets)
-  targets-given = all-given DEAD targets (targetRow ts targets) (live-targets ts targets) (each-target ts targets)
+  known-cont : (targets conts m : List ℕ) → Known NONE conts (contOf ts targets conts m)
+  known-cont targets conts m = go (eqb (targetOf ts targets m) DEAD)
+    where
+      go : (t : Bool) → Known NONE conts (pick t NONE (given NONE (distinctOf ts) conts m))
+      go true = inl refl
+      go false = known-given NONE conts m
 
-  pub wide-given : Each (λ r. OneOf targets (r .goal)) (wideOf ts targets)
-  wide-given =
+  pub wide-given : (targets : List ℕ) → Each (λ r. OneOf targets (r .goal)) (wideOf ts targets)
+  wide-given targets =
       each-join (λ r. OneOf targets (r .goal)) (λ a r u v. u) (partFrom 128 (targetRow ts targets))
-      (each-part (λ r. OneOf targets (r .goal)) 128 (λ r u. u) (targetRow ts targets) targets-given)
+      (each-part (λ r. OneOf targets (r .goal)) 128 (λ r u. u) (targetRow ts targets)
+      (row-given ts DEAD (targetOf ts targets) targets (known-given DEAD targets)))
 
-  pub escape-given : (conts : List ℕ) → Each (λ r. OneOf conts (r .goal)) (escapeOf ts targets conts)
-  escape-given conts =
+  pub escape-given : (targets conts : List ℕ) → Each (λ r. OneOf conts (r .goal)) (escapeOf ts targets conts)
+  escape-given targets conts =
       each-join (λ r. OneOf conts (r .goal)) (λ a r u v. u) (contRow ts targets conts)
-      (all-given NONE conts (contRow ts targets conts) (live-conts ts targets conts) (each-cont ts targets conts))
+      (row-given ts NONE (contOf ts targets conts) conts (known-cont targets conts))

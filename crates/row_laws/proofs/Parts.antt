@@ -39,9 +39,10 @@ pub sorted-part : (from k : ℕ) (rs : Row) → Sorted from rs → Sorted (max f
 unfolding partFrom
 sorted-part from k [] s = tt
 sorted-part from k (r ∷ rs) s =
+    let rest : Sorted (max (suc (r .high)) k) (partFrom k rs) = sorted-part (suc (r .high)) k rs (s .2) in
     ⊎-elim
-    (λ h. rw (le-ltb (r .high) k h) (omega arith, omega arith, sorted-weaken (max (suc (r .high)) k) (suc (r .high)) (partFrom k rs) (omega arith) (sorted-part (suc (r .high)) k rs (s .2))))
-    (λ h. rw (lt-ltb (r .high) k h) (sorted-weaken (max (suc (r .high)) k) (max from k) (partFrom k rs) (omega arith) (sorted-part (suc (r .high)) k rs (s .2))))
+    (λ h. rw (le-ltb (r .high) k h) (omega arith, omega arith, sorted-weaken (max (suc (r .high)) k) (suc (r .high)) (partFrom k rs) (omega arith) rest))
+    (λ h. rw (lt-ltb (r .high) k h) (sorted-weaken (max (suc (r .high)) k) (max from k) (partFrom k rs) (omega arith) rest))
     (le-or-lt k (r .high))
 
 -- a fact of every range survives parting

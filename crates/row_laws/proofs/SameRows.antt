@@ -11,32 +11,34 @@ use Rattle.table.specs.Rules.{Searchable}
 use Rattle.transitions.specs.Transition.{Transition}
 use Rattle.lookup_laws.specs.Looks.{goalAt}
 use Rattle.row_laws.specs.Row.{Row, DEAD, partFrom, numbers, Sorted}
-use Rattle.row_laws.specs.Build.{targetRow, contRow, asciiOf, wideOf, escapeOf}
+use Rattle.row_laws.specs.Build.{targetOf, contOf, targetRow, contRow, asciiOf, wideOf, escapeOf}
 use Rattle.row_laws.specs.Demand.{SameAnswers, SameRows}
 use Rattle.row_laws.proofs.Searches.{Upto}
 use Rattle.row_laws.proofs.Joins.{Canonical, join-canonical, upto-join}
 use Rattle.row_laws.proofs.Canonical.{canonical-unique}
 use Rattle.row_laws.proofs.Parts.{sorted-part, each-part, length-values}
-use Rattle.row_laws.proofs.Built.{sorted-targets, live-targets, upto-targets, sorted-conts, live-conts, upto-conts}
+use Rattle.row_laws.proofs.Built.{sorted-row, live-row, upto-row}
 
 -- What every built row is
 
 module _ (ts : List Transition) (targets : List ℕ) where
   wide-canonical : Canonical DEAD 128 (wideOf ts targets)
   wide-canonical =
-      join-canonical DEAD 128 (partFrom 128 (targetRow ts targets)) (sorted-part 0 128 (targetRow ts targets) (sorted-targets ts targets))
-      (each-part (λ r. r .goal ≡ DEAD → ⊥) 128 (λ r u. u) (targetRow ts targets) (live-targets ts targets))
+      join-canonical DEAD 128 (partFrom 128 (targetRow ts targets)) (sorted-part 0 128 (targetRow ts targets) (sorted-row ts DEAD (targetOf ts targets)))
+      (each-part (λ r. r .goal ≡ DEAD → ⊥) 128 (λ r u. u) (targetRow ts targets) (live-row ts DEAD (targetOf ts targets)))
 
   wide-upto : Upto 1114111 (wideOf ts targets)
   wide-upto =
-      upto-join 1114111 (partFrom 128 (targetRow ts targets)) (each-part (λ r. r .high ≤ 1114111) 128 (λ r u. u) (targetRow ts targets) (upto-targets ts targets))
+      upto-join 1114111 (partFrom 128 (targetRow ts targets))
+      (each-part (λ r. r .high ≤ 1114111) 128 (λ r u. u) (targetRow ts targets) (upto-row ts DEAD (targetOf ts targets)))
 
   module _ (conts : List ℕ) where
     escape-canonical : Canonical NONE 0 (escapeOf ts targets conts)
-    escape-canonical = join-canonical NONE 0 (contRow ts targets conts) (sorted-conts ts targets conts) (live-conts ts targets conts)
+    escape-canonical = join-canonical NONE 0 (contRow ts targets conts) (sorted-row ts NONE (contOf ts targets conts))
+        (live-row ts NONE (contOf ts targets conts))
 
     escape-upto : Upto 1114111 (escapeOf ts targets conts)
-    escape-upto = upto-join 1114111 (contRow ts targets conts) (upto-conts ts targets conts)
+    escape-upto = upto-join 1114111 (contRow ts targets conts) (upto-row ts NONE (contOf ts targets conts))
 
 -- "Searchable: low at most high, each high below the next low"
 searchable : (from : ℕ) (rs : Row) → Sorted from rs → Searchable rs
@@ -52,7 +54,8 @@ pub escape-searchable : (ts : List Transition) (targets conts : List ℕ) → Se
 escape-searchable ts targets conts = searchable 0 (escapeOf ts targets conts) (escape-canonical ts targets conts .sorted)
 
 -- THEOREM
-pub same-rows : (ts us : List Transition) (targets others conts others′ : List ℕ) → SameAnswers ts us targets others conts others′ → SameRows ts us targets others conts others′
+pub same-rows : (ts us : List Transition) (targets others conts others′ : List ℕ) → SameAnswers ts us targets others conts others′ →
+    SameRows ts us targets others conts others′
 same-rows ts us targets others conts others′ e =
     record {
       ascii =
@@ -66,6 +69,7 @@ same-rows ts us targets others conts others′ e =
           (wide-upto ts targets) (wide-upto us others) (λ p l h. rw (le-ltb p 128 l) at (e .targets-same p (omega arith))));
       escape =
           ap numbers
-          (canonical-unique NONE 0 1114111 (escapeOf ts targets conts) (escapeOf us others others′) (escape-canonical ts targets conts) (escape-canonical us others others′)
+          (canonical-unique NONE 0 1114111 (escapeOf ts targets conts) (escapeOf us others others′) (escape-canonical ts targets conts)
+          (escape-canonical us others others′)
           (escape-upto ts targets conts) (escape-upto us others others′) (λ p l h. e .conts-same p (omega arith)));
     }

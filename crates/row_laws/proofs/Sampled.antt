@@ -108,7 +108,8 @@ same-from : (d : ℕ) (f g : ℕ → ℕ) (c : ℕ) (cs : List ℕ) → ((x : �
 unfolding rowFrom startsFrom
 same-from d f g c [] e = refl
 same-from d f g c (n ∷ ns) e =
-    ap₂ {C = Row} (λ v rest. pick (eqb v d) rest (record { low = c; high = n - 1; goal = v } ∷ rest)) (e c (inl refl)) (same-from d f g n ns (λ x i. e x (inr i)))
+    ap₂ {C = Row} (λ v rest. pick (eqb v d) rest (record { low = c; high = n - 1; goal = v } ∷ rest)) (e c (inl refl))
+    (same-from d f g n ns (λ x i. e x (inr i)))
 
 pub same-over : (d : ℕ) (f g : ℕ → ℕ) (cs : List ℕ) → ((x : ℕ) → In x (starts cs) → f x ≡ g x) → rowOver d f cs ≡ rowOver d g cs
 unfolding rowOver starts

@@ -1,4 +1,5 @@
--- SEARCH LAWS: what a row whose ranges ascend gives at a point, of wide and escape rows alike. `d` is what is given where no range holds the point. Assumes nothing.
+-- SEARCH LAWS: what a row whose ranges ascend gives at a point, of wide and escape rows alike. `d` is what is given where no range holds the point. Assumes
+-- nothing.
 use Prim.Native.Nat.{ℕ, _≤_, _<_}
 use mathlib.Core.Path.{_≡_, refl, _∙_}
 use mathlib.Core.List.{[], _∷_}

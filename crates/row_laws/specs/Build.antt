@@ -22,12 +22,16 @@ targetOf ts targets m = given DEAD (distinctOf ts) targets m
 abbrev pub contOf : List Transition → List ℕ → List ℕ → List ℕ → ℕ
 contOf ts targets conts m = pick (eqb (targetOf ts targets m) DEAD) NONE (given NONE (distinctOf ts) conts m)
 
--- "Dead segments are left out of rows; otherwise a continuation goes to the escape row"
-unfoldable pub targetRow : List Transition → List ℕ → Row
-targetRow ts targets = rowOver DEAD (λ p. targetOf ts targets (maskOf ts p)) (cutsOf ts)
+-- "Dead segments are left out of rows": each segment with what v gives its mask, without those that are given d
+unfoldable pub rowOf : ℕ → (List ℕ → ℕ) → List Transition → Row
+rowOf d v ts = rowOver d (λ p. v (maskOf ts p)) (cutsOf ts)
 
-unfoldable pub contRow : List Transition → List ℕ → List ℕ → Row
-contRow ts targets conts = rowOver NONE (λ p. contOf ts targets conts (maskOf ts p)) (cutsOf ts)
+abbrev pub targetRow : List Transition → List ℕ → Row
+targetRow ts targets = rowOf DEAD (targetOf ts targets) ts
+
+-- "otherwise a continuation goes to the escape row"
+abbrev pub contRow : List Transition → List ℕ → List ℕ → Row
+contRow ts targets conts = rowOf NONE (contOf ts targets conts) ts
 
 -- "`split_rows` parts at 128 and joins touching wide ranges of one target"
 abbrev pub asciiOf : List Transition → List ℕ → List ℕ

@@ -29,9 +29,8 @@ use Rattle.masks.proofs.Packs.{length-masks}
 use Rattle.mask_places.proofs.Distincts.{length-places, few-distinct}
 use Rattle.mask_places.proofs.Answers.{roomy-places}
 use Rattle.row_laws.specs.Row.{Row, DEAD, Sorted, numbers, rowFrom, rowOver, joinTo, join, partFrom, values, asciiPart}
-use Rattle.row_laws.specs.Build.{given, targetOf, contOf, targetRow, contRow, asciiOf, wideOf, escapeOf}
+use Rattle.row_laws.specs.Build.{given, targetOf, contOf, rowOf, asciiOf, escapeOf}
 use Rattle.row_laws.proofs.Built as built
-use Rattle.row_laws.proofs.Sampled as sampled
 use Rattle.row_laws.proofs.Searches.{sorted-weaken}
 use Rattle.row_laws.proofs.Parts.{length-values}
 use Rattle.lookup_laws.specs.Looks.{goalAt}
@@ -287,41 +286,36 @@ module _ (w targets conts sg mk ds ai ws es : List ℕ) {got : Places} {sg₁ mk
     target-is : (c : ℕ) → targetAt targets (placeOf (distinctOf ts) (maskOf ts c)) ≡ targetOf ts targets (maskOf ts c)
     target-is c = given-place DEAD (distinctOf ts) targets (maskOf ts c) (omega (arith, p .a-target-each, few-masks))
 
-    abbrev goal : Bool → ℕ → ℕ
-    goal e q = pick e (contOf ts targets conts (maskOf ts q)) (targetOf ts targets (maskOf ts q))
+    abbrev goal : Bool → List ℕ → ℕ
+    goal e m = pick e (contOf ts targets conts m) (targetOf ts targets m)
 
-    goal-is : (e : Bool) (q : ℕ) → goalOf e targets conts (placeOf (distinctOf ts) (maskOf ts q)) ≡ goal e q
-    goal-is false c = target-is c
-    goal-is true c =
-        ap₂ (λ (t v : ℕ). pick (eqb t DEAD) NONE v) (target-is c)
-        (given-place NONE (distinctOf ts) conts (maskOf ts c) (omega (arith, p .a-cont-each, few-masks)))
+    goal-is : (e : Bool) (q : ℕ) → goalOf e targets conts (placeOf (distinctOf ts) (maskOf ts q)) ≡ goal e (maskOf ts q)
+    goal-is false q = target-is q
+    goal-is true q =
+        ap₂ (λ (t v : ℕ). pick (eqb t DEAD) NONE v) (target-is q)
+        (given-place NONE (distinctOf ts) conts (maskOf ts q) (omega (arith, p .a-cont-each, few-masks)))
 
     -- either row of the list, and what of it is written
-    abbrev rowOf : Bool → Row
-    rowOf e = rowOver (noGoal e) (goal e) (cutsOf ts)
+    abbrev row-of : Bool → Row
+    row-of e = rowOf (noGoal e) (goal e) ts
 
-    row-is : (e : Bool) → living (noGoal e) (aimed (goalOf e targets conts) sg₁ ps c 0) ≡ rowOf e
-    unfolding padded
+    row-is : (e : Bool) → living (noGoal e) (aimed (goalOf e targets conts) sg₁ ps c 0) ≡ row-of e
+    unfolding padded rowOf
     row-is e =
         ap (λ (n : ℕ). living (noGoal e) (aimed (goalOf e targets conts) sg₁ ps n 0)) (p .count-is)
-        ∙ row-over (goalOf e targets conts) ts sg₁ ps (noGoal e) (goal e) (goal-is e) (cutsOf ts)
+        ∙ row-over (goalOf e targets conts) ts sg₁ ps (noGoal e) (λ q. goal e (maskOf ts q)) (goal-is e) (cutsOf ts)
         (zeros (length sg - length (segments (cutsOf ts)))) (zeros (2048 - length (placesOf ts))) (p .low-high) (p .places)
 
-    joined-row : (e : Bool) → joined e targets conts sg₁ ps c ≡ join (partFrom (firstOf e) (rowOf e))
-    joined-row e = joined-is e (aimed (goalOf e targets conts) sg₁ ps c 0) (rowOf e)
-        (sampled.sorted-over (noGoal e) (goal e) (cutsOf ts) (built.asc-cuts ts)) (sorted h i (goalOf e targets conts)) (row-is e)
+    joined-row : (e : Bool) → joined e targets conts sg₁ ps c ≡ join (partFrom (firstOf e) (row-of e))
+    joined-row e =
+        joined-is e (aimed (goalOf e targets conts) sg₁ ps c 0) (row-of e) (built.sorted-row ts (noGoal e) (goal e))
+        (sorted h i (goalOf e targets conts)) (row-is e)
 
     asciis : asciiPart (aimed (targetAt targets) sg₁ ps c 0) ≡ asciiOf ts targets
-    unfolding targetRow
-    asciis = ascii-is (aimed (targetAt targets) sg₁ ps c 0) (rowOf false) (sorted h i (targetAt targets)) (row-is false)
-
-    wides : joined false targets conts sg₁ ps c ≡ wideOf ts targets
-    unfolding targetRow
-    wides = joined-row false
+    asciis = ascii-is (aimed (targetAt targets) sg₁ ps c 0) (row-of false) (sorted h i (targetAt targets)) (row-is false)
 
     escapes : joined true targets conts sg₁ ps c ≡ escapeOf ts targets conts
-    unfolding contRow
-    escapes = joined-row true ∙ ap join (part-all (rowOf true))
+    escapes = joined-row true ∙ ap join (part-all (row-of true))
 
     pub build-done : {r : Rows} {ai₂ ws₂ es₂ : List ℕ} → Filled r targets conts sg₁ ps c ai₁ ai₂ ws₁ ws₂ es₁ es₂ →
         Builds r (lent sg mk ds ai ws es) sg₁ mk₁ ds₁ ai₂ ws₂ es₂ targets conts (parseRows (lent sg mk ds ai ws es) w targets conts)
@@ -335,12 +329,12 @@ module _ (w targets conts sg mk ds ai ws es : List ℕ) {got : Places} {sg₁ mk
         omega (arith, few-joined true targets conts sg₁ ps c, p .few, room .2) in
         rw (sym x-is ∙ p .is)
         (record {
-          says = f .says ∙ ap₂ {C = Said} (λ x y. ok (length (numbers x) ∷ length (numbers y) ∷ [])) wides escapes;
+          says = f .says ∙ ap₂ {C = Said} (λ x y. ok (length (numbers x) ∷ length (numbers y) ∷ [])) (joined-row false) escapes;
           low-high = p .low-high;
           each = p .each;
           once = p .once;
           narrow = stands (length ai) (f .narrow) (z .empty .first) asciis fit-a;
-          broad = stands (length ws) (f .broad) (z .empty .second) (ap numbers wides) fit-w;
+          broad = stands (length ws) (f .broad) (z .empty .second) (ap numbers (joined-row false)) fit-w;
           escapes = stands (length es) (f .escapes) (z .empty .third) (ap numbers escapes) fit-e;
         })
 

@@ -153,22 +153,7 @@ module _ (e : Bool) (ts cs segs ps : List ℕ) (count : ℕ) (old : List ℕ) wh
       }
 
   module _ {low high goal k m : ℕ} {out : List ℕ} (h : Joining e ts cs segs ps count old low high goal k m out) where
-    pub join-same : length out ≡ length old
-    join-same = h .going .size
-
-    pub join-room : m + 3 ≤ length out
-    join-room = omega (arith, h .room)
-
     module _ (n : k < count) where
-      pub join-place : k < length ps
-      join-place = omega (arith, h .each-place)
-
-      pub join-low : 2 * k < length segs
-      join-low = omega (arith, h .points)
-
-      pub join-high : 2 * k + 1 < length segs
-      join-high = omega (arith, h .points)
-
       pub join-turn : {value first r : ℕ} {t : Bool} {new : List ℕ} → value ≡ goalOf e ts cs (getD ps k 0) →
           t ≡ (eqb (suc high) (getD segs (2 * k) 0) && eqb goal value) →
           Put (pick t [] (seenWords e low high goal)) m out r new → first ≡ pick t low (getD segs (2 * k) 0) →
@@ -203,4 +188,4 @@ module _ (e : Bool) (ts cs segs ps : List ℕ) (count : ℕ) (old : List ℕ) wh
         (going-turn (numbers (joined e ts cs segs ps count)) 0 old [] m out (seenWords e low high goal) p
         (subst (λ (l : List ℕ). Going (numbers (joined e ts cs segs ps count)) 0 old l m out) is (h .going)))
 
-pub ruleset joining = (needs, join-start, join-same, join-room, join-place, join-low, join-high, join-turn, join-done)
+pub ruleset joining = (needs, join-start, join-turn, join-done)

@@ -153,15 +153,6 @@ module _ (ts segs ps : List ℕ) (count : ℕ) (old : List ℕ) where
       }
 
   module _ {k m : ℕ} {out : List ℕ} (h : Filling ts segs ps count old k m out) where
-    pub ascii-same : length out ≡ length old
-    ascii-same = h .going .size
-
-    pub ascii-fits : 128 ≤ length out
-    ascii-fits = h .fits
-
-    pub ascii-most : m ≤ 128
-    ascii-most = h .most
-
     module _ (n : k < count) where
       abbrev low : ℕ
       low = getD segs (2 * k) 0
@@ -177,15 +168,6 @@ module _ (ts segs ps : List ℕ) (count : ℕ) (old : List ℕ) where
 
       opened : Sorted m (rangeOf low high goal ∷ rest)
       opened = subst (Sorted m) (aimed-turn (targetAt ts) segs ps count k n) (h .order)
-
-      pub ascii-place : k < length ps
-      ascii-place = omega (arith, h .each-place)
-
-      pub ascii-first : 2 * k < length segs
-      ascii-first = omega (arith, h .points)
-
-      pub ascii-second : 2 * k + 1 < length segs
-      ascii-second = omega (arith, h .points)
 
       pub ascii-low : m ≤ min (getD segs (2 * k) 0) 128
       ascii-low = omega (arith, opened .0, h .most)
@@ -224,7 +206,7 @@ module _ (ts segs ps : List ℕ) (count : ℕ) (old : List ℕ) where
         going-done all 0 old (going-turn all 0 old [] m out (replicate (128 - m) DEAD) (p .put) (subst (λ (y : List ℕ). Going all 0 old y m out) is (h .going)))
 
 pub ruleset targeting =
-    (needs, ascii-start, ascii-same, ascii-fits, ascii-most, ascii-place, ascii-first, ascii-second, ascii-low, ascii-high, ascii-turn, ascii-done)
+    (needs, ascii-start, ascii-low, ascii-high, ascii-turn, ascii-done)
 
 -- The rows stand in their buffers
 

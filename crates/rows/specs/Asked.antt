@@ -44,8 +44,7 @@ pub record Fillable (r : Places) (segments places ascii wide escape : List ℕ) 
 
 -- all of it: the buffers for rows are cleared, and the list has its places, unless it is refused
 pub record Prepared (w : List ℕ) (t c : ℕ) (r : Places) (segments segments′ masks masks′ distinct distinct′ : List ℕ) (p : ℕ)
-    (places ascii ascii′ wide wide′ escape escape′ : List ℕ)
-    : Type 0 where
+    (places ascii ascii′ wide wide′ escape escape′ : List ℕ) : Type 0 where
   pub short : Bool
   pub cleared : Cleared short ascii ascii′ wide wide′ escape escape′
   pub asked : Asked t c short r (length segments) segments′ (length masks) masks′ (length distinct) distinct′ p places

@@ -112,7 +112,7 @@ fn no_goal(escape: bool) -> u32
     if escape {
         return NONE;
     }
-    65535
+    DEAD_STATE as u32
 }
 
 // The ascii targets of `count` segments: 128 of them.
@@ -289,8 +289,8 @@ fn clear_masks(segments: &mut [u32], masks: &mut [u64], distinct: &mut [u64])
     written_words::clear_words(distinct);
 }
 
-// The segments of a list, their masks, the distinct ones and the places of these, unless so many targets and continuations are not for it, or a buffer for rows
-// is too short.
+// The segments of a list, their masks, the distinct ones and the places of these, unless the list is refused, or it has another number of distinct masks than
+// there are targets or continuations, or a buffer for rows is too short.
 fn place_for_rows(
     list: &[u8],
     targets: usize,
@@ -328,6 +328,7 @@ fn place_for_rows(
     }
 }
 
+// The same, behind the buffers for rows, which are cleared first.
 fn prepare_rows(
     list: &[u8],
     targets: usize,
