@@ -6,8 +6,9 @@ use lib.ListN.{length, getD}
 use lib.Dec.{eqb}
 use Rattle.refusal.specs.Said.{Said, ok, no, INDEX}
 use Rattle.refusal.specs.Lists.{pick}
-use Rattle.layout.specs.declared.Sections.{Sections}
-use Rattle.layout.specs.declared.Sections.the-variants.{Found, Unfound}
+use Rattle.words.specs.declared.Sections.{Sections}
+use Rattle.layout.specs.declared.Layout.{Layout}
+use Rattle.layout.specs.declared.Layout.the-variants.{Found, Unfound}
 use Rattle.rules.specs.Rules.{broken}
 use Rattle.written.specs.Over.{zeros}
 use Rattle.limits.specs.Limits.{laidOut}
@@ -21,12 +22,12 @@ said (Table modes states words) = ok (modes ∷ states ∷ words ∷ [])
 said (Refused r) = no (r .number) (r .place)
 
 -- "INDEX | an index rule is broken | rule number": k is the first that is broken, or 0
-unfoldable pub judged : List ℕ → ℕ → ℕ → ℕ → Decoded
-judged w m s k = pick (eqb k 0) (Table (getD w m 0) (getD w s 0) (length w)) (Refused (record { number = INDEX; place = k }))
+unfoldable pub judged : List ℕ → Sections → ℕ → Decoded
+judged w s k = pick (eqb k 0) (Table (getD w (s .modes) 0) (getD w (s .states) 0) (length w)) (Refused (record { number = INDEX; place = k }))
 
 -- the words, once their sections are found
-unfoldable pub decodedFrom : List ℕ → Sections → Decoded
-decodedFrom w (Found m s r a v x e c) = judged w m s (broken w m s r a v x e c)
+unfoldable pub decodedFrom : List ℕ → Layout → Decoded
+decodedFrom w (Found s) = judged w s (broken w s)
 decodedFrom w (Unfound r) = Refused r
 
 -- into a room of n numbers
@@ -34,8 +35,8 @@ abbrev pub decodeOf : List ℕ → ℕ → Decoded
 decodeOf w n = decodedFrom w (laidOut w n)
 
 -- "Refused: all outputs zero." The room of a table that breaks a rule is zero too
-unfoldable pub keptFrom : List ℕ → ℕ → Sections → List ℕ
-keptFrom w n (Found m s r a v x e c) = pick (eqb (broken w m s r a v x e c) 0) (roomFor w n (Found m s r a v x e c)) (zeros n)
+unfoldable pub keptFrom : List ℕ → ℕ → Layout → List ℕ
+keptFrom w n (Found s) = pick (eqb (broken w s) 0) (roomFor w n (Found s)) (zeros n)
 keptFrom w n (Unfound r) = zeros n
 
 abbrev pub roomOf : List ℕ → ℕ → List ℕ

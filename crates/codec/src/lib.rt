@@ -2,9 +2,10 @@
 ghost use mathlib.Core.Path.{_≡_};
 ghost use lib.ListN.{length};
 ghost use Rattle.codec.specs.Decode.{decodeOf, roomOf};
-use layout::Sections;
+use layout::Layout;
 use refusal::INDEX;
 use refusal::Refusal;
+use rules::word_at;
 
 // A table, by the number of its modes, states and words, or why the words are none.
 pub enum Decoded {
@@ -21,31 +22,12 @@ pub fn decode(words: &[u32], room: &mut [u32]) -> Decoded
     ensures { λ r. ⌜ (r ≡ decodeOf (now (words .entry)) (length (now (room .entry)))) × (now (room .exit) ≡ roomOf (now (words .entry)) (length (now (room .entry)))) ⌝ }
 {
     match room::fill(words, room) {
-        Sections::Found {
-            modes,
-            states,
-            runs,
-            ascii_rows,
-            wide_rows,
-            accepts,
-            escape_rows,
-            continuations,
-        } => {
-            let rule = index_rules::first_broken(
-                words,
-                modes,
-                states,
-                runs,
-                ascii_rows,
-                wide_rows,
-                accepts,
-                escape_rows,
-                continuations,
-            );
+        Layout::Found(s) => {
+            let rule = index_rules::first_broken(words, s);
             if rule == 0 {
                 return Decoded::Table {
-                    modes: words[modes],
-                    states: words[states],
+                    modes: word_at(words, s.modes),
+                    states: word_at(words, s.states),
                     words: words.len(),
                 };
             }
@@ -55,6 +37,6 @@ pub fn decode(words: &[u32], room: &mut [u32]) -> Decoded
                 place: rule as usize,
             })
         }
-        Sections::Unfound(r) => Decoded::Refused(r),
+        Layout::Unfound(r) => Decoded::Refused(r),
     }
 }

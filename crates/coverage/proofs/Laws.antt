@@ -15,8 +15,9 @@ use borrow.Author.Tests.{le-leb, lt-leb, lt-ltb, le-ltb, eq-eqb, ne-eqb, ltb-tru
 use Rattle.refusal.specs.Said.{Said, ok, no, NOT-TABLE}
 use Rattle.refusal.specs.Lists.{pick}
 use Rattle.refusal.specs.declared.Refusal.{Refusal}
-use Rattle.layout.specs.declared.Sections.{Sections}
-use Rattle.layout.specs.declared.Sections.the-variants as sections
+use Rattle.words.specs.declared.Sections.{Sections}
+use Rattle.layout.specs.declared.Layout.{Layout}
+use Rattle.layout.specs.declared.Layout.the-variants as layout
 use Rattle.room_read.specs.declared.Found.{Found}
 use Rattle.room_read.specs.declared.Found.the-variants.{At}
 use Rattle.room_read.specs.Room.{stateAt, ofState}
@@ -156,15 +157,15 @@ pub ruleset summing = (ofstate, points-most, points-all)
 
 -- The room is judged first
 
-module _ (d : List ℕ) (s : ℕ) {got : Sections} (g : got ≡ tableIn d) where
-  pub is-table : {m t r a v x e c : ℕ} → got ≡ sections.Found m t r a v x e c → isTable d ≡ true
+module _ (d : List ℕ) (s : ℕ) {got : Layout} (g : got ≡ tableIn d) where
+  pub is-table : {f : Sections} → got ≡ layout.Found f → isTable d ≡ true
   is-table e = found-table d (sym g ∙ e) .0
 
-  pub in-table : {m t r a v x e c : ℕ} {y : Said} → got ≡ sections.Found m t r a v x e c → y ≡ ofState d s (λ p. ok (covered d s ∷ [])) → y ≡ coverageOf d s
+  pub in-table : {f : Sections} {y : Said} → got ≡ layout.Found f → y ≡ ofState d s (λ p. ok (covered d s ∷ [])) → y ≡ coverageOf d s
   unfolding coverageOf
   in-table e h = h ∙ (rw (found-table d (sym g ∙ e) .0))
 
-  pub no-table : {o : Refusal} → got ≡ sections.Unfound o → no NOT-TABLE 0 ≡ coverageOf d s
+  pub no-table : {o : Refusal} → got ≡ layout.Unfound o → no NOT-TABLE 0 ≡ coverageOf d s
   unfolding coverageOf
   no-table e = rw (unfound-table d (sym g ∙ e))
 

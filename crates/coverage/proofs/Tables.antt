@@ -12,6 +12,7 @@ use mir.Val.{Fits}
 use borrow.Author.Tests.{lt-ltb, le-ltb, eq-eqb, ltb-true, ltb-false}
 use Rattle.refusal.specs.Said.{ok, no, STATE}
 use Rattle.refusal.specs.Lists.{pick}
+use Rattle.layout.specs.declared.Layout.the-variants.{Found}
 use Rattle.room.specs.Room.{roomFor}
 use Rattle.room_read.specs.declared.Found.the-variants as place
 use Rattle.room_read.specs.Room.{stateAt, follow}
@@ -51,8 +52,8 @@ part-fits d f i h =
     subst (λ x. x < 4294967296) (sym (getD-take n (drop 9 d) i 0 l)) (omega (arith, numbers-drop 9 d f i .fits))
 
 -- what decoding leaves for a table
-table-kept : (t : Table) → Fields t → Rules t → length (wordsOf t) ≤ 8192 → (n : ℕ) → 16384 ≤ n → roomOf (wordsOf t) n ≡ roomFor (wordsOf t) n (sectionsOf t)
-unfolding keptFrom sectionsOf
+table-kept : (t : Table) → Fields t → Rules t → length (wordsOf t) ≤ 8192 → (n : ℕ) → 16384 ≤ n → roomOf (wordsOf t) n ≡ roomFor (wordsOf t) n (Found (sectionsOf t))
+unfolding keptFrom
 table-kept t h r l n room = rw (laid t h r l n room, eq-eqb (brokenOf t) 0 (obeys-accepted t h l r .1))
 
 -- a room that is a table holds one
@@ -63,7 +64,7 @@ table-held d f h =
     let a = accepted-table (wordsPart d) n (part-fits d f) (o .0) in
     let t = a .0 in
     let l : length (wordsOf t) ≤ 8192 = subst (λ v. length v ≤ 8192) (a .3) (a .4) in
-    let e : d ≡ roomFor (wordsOf t) n (sectionsOf t) = o .1 ∙ ap (λ v. roomOf v n) (a .3) ∙ table-kept t (a .1) (a .2) l n (a .5) in
+    let e : d ≡ roomFor (wordsOf t) n (Found (sectionsOf t)) = o .1 ∙ ap (λ v. roomOf v n) (a .3) ∙ table-kept t (a .1) (a .2) l n (a .5) in
     (t, a .1, a .2, subst (Held t) (sym e) (held t (a .1) l n))
 
 module _ (t : Table) (h : Fields t) (r : Rules t) (d : List ℕ) (k : Held t d) (s : ℕ) (l : s < length (t .states)) where

@@ -12,7 +12,7 @@ ghost use Rattle.judge.specs.Judge.{isTable};
 ghost use Rattle.targets.specs.Targets as targeting;
 ghost use Rattle.coverage.specs.Coverage.{said, notDead, goesOn, count, covered, coverageOf};
 ghost use Rattle.coverage.specs.Spans.{below, span, spans, rowSpans, wideSpans};
-use layout::Sections;
+use layout::Layout;
 use room_read::Found;
 use targets::Target;
 
@@ -172,7 +172,7 @@ pub fn coverage(room: &[u32], state: u16) -> Covered
     ensures { λ r. ⌜ said r ≡ coverageOf (now (room .entry)) state ⌝ }
 {
     match judge::table_in(room) {
-        Sections::Found { .. } => state_points(room, state),
-        Sections::Unfound(_) => Covered::NotTable,
+        Layout::Found(_) => state_points(room, state),
+        Layout::Unfound(_) => Covered::NotTable,
     }
 }

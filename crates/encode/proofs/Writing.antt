@@ -11,13 +11,14 @@ use lib.ListN.{length, getD, take, drop, set, length-take, length-drop, drop-of-
 use lib.Seq.{drop-cons, drop-drop, take-all, take-add, take-length, length-take-le}
 use Rattle.refusal.specs.declared.Refusal.{Refusal}
 use Rattle.refusal.specs.Said.{Said, ok, no, NOT-TABLE, ROOM}
-use Rattle.layout.specs.declared.Sections.{Sections}
-use Rattle.layout.specs.declared.Sections.the-variants.{Found, Unfound}
+use Rattle.words.specs.declared.Sections.{Sections}
+use Rattle.layout.specs.declared.Layout.{Layout}
+use Rattle.layout.specs.declared.Layout.the-variants.{Found, Unfound}
 use Rattle.layout.specs.Layout.{layoutOf}
-use Rattle.layout.proofs.Found.{found}
+use Rattle.layout.proofs.Found.{order}
+use Rattle.layout.proofs.Found.{modes-there, states-there, runs-there, ascii-there, wide-there, accepts-there, escapes-there, continuations-there}
 use Rattle.written.specs.Over.{over, lay, zeros, padded}
 use Rattle.written.proofs.Overs.{lay-none, lay-put, lay-lay, lay-zeros}
-use Rattle.room.proofs.Sizes.{ordered}
 use Rattle.limits.proofs.Laws.{kept}
 use Rattle.judge.specs.Judge.{wordsPart, tableIn}
 use Rattle.judge.proofs.Tables.{table-laid, found-table, unfound-table}
@@ -73,47 +74,53 @@ spans-two : {w : List ℕ} {a b c : ℕ} → Spans w a b → Spans w b c → Spa
 spans-two s t = record { order = omega (arith, s .order, t .order); within = t .within }
 
 -- three sections
-pub three : (w old : List ℕ) {a b c d : ℕ} {x y z : List ℕ} → Spans w a b → Spans w b c → Spans w c d → length w ≤ length old → x ≡ lay a (part w a b) old → y ≡ lay b (part w b c) x → z ≡ lay c (part w c d) y
-    → z ≡ lay a (part w a d) old
-three w old s t u l h i j = two w old (spans-two s t) u l (two w old s t l h i) j
+pub three : (w old : List ℕ) {a b c d : ℕ} {x y z : List ℕ} → x ≡ lay a (part w a b) old → y ≡ lay b (part w b c) x → z ≡ lay c (part w c d) y
+    → Spans w a b → Spans w b c → Spans w c d → length w ≤ length old → z ≡ lay a (part w a d) old
+three w old h i j s t u l = two w old (spans-two s t) u l (two w old s t l h i) j
 
 whole : (w old : List ℕ) {new : List ℕ} → new ≡ lay 0 (part w 0 (length w)) old → new ≡ lay 0 w old
 whole w old k = let i : length w - 0 ≡ length w = omega arith in k ∙ ap (λ (n : ℕ). lay 0 (take n w) old) i ∙ ap (λ (o : List ℕ). lay 0 o old) (take-length w)
 
-module _ (w : List ℕ) {m s r a v x e c : ℕ} (h : layoutOf w ≡ Found m s r a v x e c) where
-  pub tag-spans : Spans w 0 m
-  tag-spans = let o = ordered (found w h) in record { order = omega arith; within = omega (arith, o .states, o .runs, o .ascii, o .wide, o .accepts, o .escapes, o .continuations, o .all) }
+module _ (w : List ℕ) {s : Sections} (h : layoutOf w ≡ Found s) where
+  pub tag-spans : Spans w 0 (s .modes)
+  tag-spans = record { order = omega arith; within = omega (arith, modes-there w h) }
 
-  pub modes-spans : Spans w m s
-  modes-spans = let o = ordered (found w h) in record { order = omega (arith, o .states); within = omega (arith, o .runs, o .ascii, o .wide, o .accepts, o .escapes, o .continuations, o .all) }
+  pub modes-spans : Spans w (s .modes) (s .states)
+  modes-spans = record { order = omega (arith, order w h .states); within = omega (arith, states-there w h) }
 
-  pub states-spans : Spans w s r
-  states-spans = let o = ordered (found w h) in record { order = omega (arith, o .runs); within = omega (arith, o .ascii, o .wide, o .accepts, o .escapes, o .continuations, o .all) }
+  pub states-spans : Spans w (s .states) (s .runs)
+  states-spans = record { order = omega (arith, order w h .runs); within = omega (arith, runs-there w h) }
 
-  pub runs-spans : Spans w r a
-  runs-spans = let o = ordered (found w h) in record { order = omega (arith, o .ascii); within = omega (arith, o .wide, o .accepts, o .escapes, o .continuations, o .all) }
+  pub runs-spans : Spans w (s .runs) (s .ascii)
+  runs-spans = record { order = omega (arith, order w h .ascii); within = omega (arith, ascii-there w h) }
 
-  pub ascii-spans : Spans w a v
-  ascii-spans = let o = ordered (found w h) in record { order = omega (arith, o .wide); within = omega (arith, o .accepts, o .escapes, o .continuations, o .all) }
+  pub ascii-spans : Spans w (s .ascii) (s .wide)
+  ascii-spans = record { order = omega (arith, order w h .wide); within = omega (arith, wide-there w h) }
 
-  pub wide-spans : Spans w v x
-  wide-spans = let o = ordered (found w h) in record { order = omega (arith, o .accepts); within = omega (arith, o .escapes, o .continuations, o .all) }
+  pub wide-spans : Spans w (s .wide) (s .accepts)
+  wide-spans = record { order = omega (arith, order w h .accepts); within = omega (arith, accepts-there w h) }
 
-  pub accepts-spans : Spans w x e
-  accepts-spans = let o = ordered (found w h) in record { order = omega (arith, o .escapes); within = omega (arith, o .continuations, o .all) }
+  pub accepts-spans : Spans w (s .accepts) (s .escapes)
+  accepts-spans = record { order = omega (arith, order w h .escapes); within = omega (arith, escapes-there w h) }
 
-  pub escapes-spans : Spans w e c
-  escapes-spans = let o = ordered (found w h) in record { order = omega (arith, o .continuations); within = omega (arith, o .all) }
+  pub escapes-spans : Spans w (s .escapes) (s .continuations)
+  escapes-spans = record { order = omega (arith, order w h .continuations); within = omega (arith, continuations-there w h) }
 
-  pub continuations-spans : Spans w c (length w)
-  continuations-spans = let o = ordered (found w h) in record { order = omega (arith, o .all); within = omega arith }
+  pub continuations-spans : Spans w (s .continuations) (length w)
+  continuations-spans = record { order = omega (arith, continuations-there w h); within = omega arith }
 
   -- all nine, three at a time
-  pub sections-written : (old : List ℕ) {d₁ d₂ d₃ : List ℕ} → length w ≤ length old → d₁ ≡ lay 0 (part w 0 r) old → d₂ ≡ lay r (part w r x) d₁ → d₃ ≡ lay x (part w x (length w)) d₂ → d₃ ≡ lay 0 w old
-  sections-written old l i j k =
+  pub sections-written : (old : List ℕ) {d₁ d₂ d₃ : List ℕ} → d₁ ≡ lay 0 (part w 0 (s .runs)) old → d₂ ≡ lay (s .runs) (part w (s .runs) (s .accepts)) d₁
+      → d₃ ≡ lay (s .accepts) (part w (s .accepts) (length w)) d₂ → length w ≤ length old → d₃ ≡ lay 0 w old
+  sections-written old i j k l =
       whole w old
-      (three w old (spans-two tag-spans (spans-two modes-spans states-spans)) (spans-two runs-spans (spans-two ascii-spans wide-spans))
-      (spans-two accepts-spans (spans-two escapes-spans continuations-spans)) l i j k)
+      (three w old i j k (spans-two tag-spans (spans-two modes-spans states-spans)) (spans-two runs-spans (spans-two ascii-spans wide-spans))
+      (spans-two accepts-spans (spans-two escapes-spans continuations-spans)) l)
+
+-- three parts that were written, and all nine
+pub ruleset written-three = (needs, three)
+
+pub ruleset written-all = (needs, sections-written)
 
 pub ruleset spanning = (needs, tag-spans, modes-spans, states-spans, runs-spans, ascii-spans, wide-spans, accepts-spans, escapes-spans, continuations-spans)
 
@@ -121,14 +128,14 @@ pub ruleset spanning = (needs, tag-spans, modes-spans, states-spans, runs-spans,
 
 module _ (d : List ℕ) where
   -- the room of a table, and its word count
-  table-kept : {m s r a v x e c : ℕ} → tableIn d ≡ Found m s r a v x e c → (16384 ≤ length d) × (length (wordsPart d) ≤ 8192)
-  table-kept h = let t = table-laid d (found-table d h .0) in let k = kept (wordsPart d) (length d) (t .8) in (k .room, k .limit)
+  table-kept : {s : Sections} → tableIn d ≡ Found s → (16384 ≤ length d) × (length (wordsPart d) ≤ 8192)
+  table-kept h = let t = table-laid d (found-table d h .0) in let k = kept (wordsPart d) (length d) (t .1) in (k .room, k .limit)
 
-  count-is : {m s r a v x e c : ℕ} → tableIn d ≡ Found m s r a v x e c → getD d 0 0 ≡ length (wordsPart d)
+  count-is : {s : Sections} → tableIn d ≡ Found s → getD d 0 0 ≡ length (wordsPart d)
   unfolding wordsPart
   count-is h = let k = table-kept h in omega (arith, k .0, k .1, length-take (getD d 0 0) (drop 9 d), length-drop 9 d)
 
-  pub first-there : {m s r a v x e c : ℕ} → tableIn d ≡ Found m s r a v x e c → 0 < length d
+  pub first-there : {s : Sections} → tableIn d ≡ Found s → 0 < length d
   first-there h = let k = table-kept h in omega (arith, k .0)
 
 module _ (d : List ℕ) (k : ℕ) where
@@ -140,33 +147,33 @@ module _ (d : List ℕ) (k : ℕ) where
   unfolding wordsPart
   read-is e = let i : 9 + k - 9 ≡ getD d 0 0 = omega arith in rw i
 
-  module _ {m s r a v x e c : ℕ} where
-    pub read-within : k ≡ getD d 0 0 → tableIn d ≡ Found m s r a v x e c → 9 + k ≤ length d
+  module _ {s : Sections} where
+    pub read-within : k ≡ getD d 0 0 → tableIn d ≡ Found s → 9 + k ≤ length d
     read-within e h = let t = table-kept d h in omega (arith, t .0, t .1, count-is d h)
 
-    pub read-laid : k ≡ getD d 0 0 → tableIn d ≡ Found m s r a v x e c → layoutOf read ≡ Found m s r a v x e c
+    pub read-laid : k ≡ getD d 0 0 → tableIn d ≡ Found s → layoutOf read ≡ Found s
     read-laid e h = ap layoutOf (read-is e) ∙ found-table d h .1
 
-    pub read-fits : (n : ℕ) → k ≡ getD d 0 0 → tableIn d ≡ Found m s r a v x e c → k ≤ n → length read ≤ n
+    pub read-fits : (n : ℕ) → k ≡ getD d 0 0 → tableIn d ≡ Found s → k ≤ n → length read ≤ n
     read-fits n e h l = omega (arith, ap length (read-is e), count-is d h)
 
     module _ (n : ℕ) where
-      pub no-room : k ≡ getD d 0 0 → tableIn d ≡ Found m s r a v x e c → n < k → refused ROOM 0 ≡ encodeOf d n
+      pub no-room : k ≡ getD d 0 0 → tableIn d ≡ Found s → n < k → refused ROOM 0 ≡ encodeOf d n
       unfolding encodeOf
       no-room e h l = let i : n < length (wordsPart d) = omega (arith, count-is d h) in rw (found-table d h .0, lt-ltb n (length (wordsPart d)) i)
 
-      pub no-room-out : {out : List ℕ} → k ≡ getD d 0 0 → tableIn d ≡ Found m s r a v x e c → n < k → out ≡ zeros n → out ≡ outOf d n
+      pub no-room-out : {out : List ℕ} → k ≡ getD d 0 0 → tableIn d ≡ Found s → n < k → out ≡ zeros n → out ≡ outOf d n
       unfolding outOf
       no-room-out e h l z = let i : n < length (wordsPart d) = omega (arith, count-is d h) in z ∙ (rw (found-table d h .0, lt-ltb n (length (wordsPart d)) i))
 
-      pub all-words : k ≡ getD d 0 0 → tableIn d ≡ Found m s r a v x e c → k ≤ n → Words k ≡ encodeOf d n
+      pub all-words : k ≡ getD d 0 0 → tableIn d ≡ Found s → k ≤ n → Words k ≡ encodeOf d n
       unfolding encodeOf
       all-words e h l =
           let j : k ≡ length (wordsPart d) = omega (arith, count-is d h) in
           let i : length (wordsPart d) ≤ n = omega arith in
           ap Words j ∙ (rw (found-table d h .0, le-ltb n (length (wordsPart d)) i))
 
-      pub all-out : {out new : List ℕ} → k ≡ getD d 0 0 → tableIn d ≡ Found m s r a v x e c → k ≤ n → out ≡ zeros n → new ≡ lay 0 read out → new ≡ outOf d n
+      pub all-out : {out new : List ℕ} → k ≡ getD d 0 0 → tableIn d ≡ Found s → k ≤ n → out ≡ zeros n → new ≡ lay 0 read out → new ≡ outOf d n
       unfolding outOf
       all-out {out} {new} e h l z p =
           let i : length (wordsPart d) ≤ n = omega (arith, count-is d h) in
@@ -176,11 +183,11 @@ module _ (d : List ℕ) (k : ℕ) where
 pub ruleset encoding = (needs, read-within, read-laid, read-fits, no-room, no-room-out, all-words, all-out)
 
 -- the room is judged first
-module _ (d : List ℕ) {got : Sections} where
-  pub is-held : {x : Sections} → got ≡ tableIn d → got ≡ x → tableIn d ≡ x
+module _ (d : List ℕ) {got : Layout} where
+  pub is-held : {x : Layout} → got ≡ tableIn d → got ≡ x → tableIn d ≡ x
   is-held g i = sym g ∙ i
 
-  pub first-read : {m s r a v x e c : ℕ} → got ≡ tableIn d → got ≡ Found m s r a v x e c → 0 < length d
+  pub first-read : {s : Sections} → got ≡ tableIn d → got ≡ Found s → 0 < length d
   first-read g i = first-there d (sym g ∙ i)
 
   module _ (n : ℕ) {o : Refusal} where

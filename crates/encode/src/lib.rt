@@ -1,16 +1,20 @@
 // Table to words: encoding hands the words of a room on, section by section, once it has judged the room.
 ghost use mathlib.Core.Path.{_≡_};
 ghost use Prim.Native.Nat.{_≤_, _-_};
-ghost use lib.ListN.{length, getD, take, drop};
-ghost use Rattle.layout.specs.declared.Sections.the-variants.{Found};
+ghost use lib.ListN.{length, take, drop};
+ghost use Rattle.refusal.specs.Header.{wordCount};
+ghost use Rattle.layout.specs.declared.Layout.the-variants.{Found};
 ghost use Rattle.layout.specs.Layout.{layoutOf};
 ghost use Rattle.written.specs.Over.{over, lay, zeros};
 ghost use Rattle.judge.specs.Judge.{tableIn};
 ghost use Rattle.encode.specs.Encode.{Spans, encodeOf, outOf};
-use layout::Sections;
+use layout::Layout;
+use refusal::HEADER_NUMBERS;
 use refusal::NOT_TABLE;
 use refusal::ROOM;
 use refusal::Refusal;
+use refusal::WORD_COUNT;
+use words::Sections;
 
 // How many words were written, or why none were.
 pub enum Encoded {
@@ -60,43 +64,27 @@ fn write_three(
 }
 
 // Writes the tag and the eight sections, each into its own part of the output.
-fn write_sections(
-    words: &[u32],
-    modes: usize,
-    states: usize,
-    runs: usize,
-    ascii_rows: usize,
-    wide_rows: usize,
-    accepts: usize,
-    escape_rows: usize,
-    continuations: usize,
-    out: &mut [u32],
-)
-    requires found { ⌜ layoutOf (now words) ≡ Found modes states runs «ascii_rows» «wide_rows» accepts «escape_rows» continuations ⌝ }
+fn write_sections(words: &[u32], s: Sections, out: &mut [u32])
+    requires found { ⌜ layoutOf (now words) ≡ Found s ⌝ }
     requires fits { ⌜ length (now words) ≤ length (now out) ⌝ }
     ensures { λ _. ⌜ now (out .exit) ≡ lay 0 (now (words .entry)) (now (out .entry)) ⌝ }
 {
-    write_three(words, 0, modes, states, runs, out);
-    write_three(words, runs, ascii_rows, wide_rows, accepts, out);
-    write_three(words, accepts, escape_rows, continuations, words.len(), out);
+    write_three(words, 0, s.modes, s.states, s.runs, out);
+    write_three(words, s.runs, s.ascii, s.wide, s.accepts, out);
+    write_three(
+        words,
+        s.accepts,
+        s.escapes,
+        s.continuations,
+        words.len(),
+        out,
+    );
 }
 
 // Writes the words of a room that is a table of `count` words into an output that is all zeros.
-fn write_table(
-    count: u32,
-    room: &[u32],
-    modes: usize,
-    states: usize,
-    runs: usize,
-    ascii_rows: usize,
-    wide_rows: usize,
-    accepts: usize,
-    escape_rows: usize,
-    continuations: usize,
-    out: &mut [u32],
-) -> Encoded
-    requires first { ⌜ count ≡ getD (now room) 0 0 ⌝ }
-    requires found { ⌜ tableIn (now room) ≡ Found modes states runs «ascii_rows» «wide_rows» accepts «escape_rows» continuations ⌝ }
+fn write_table(count: u32, room: &[u32], s: Sections, out: &mut [u32]) -> Encoded
+    requires first { ⌜ count ≡ wordCount (now room) ⌝ }
+    requires found { ⌜ tableIn (now room) ≡ Found s ⌝ }
     requires cleared { ⌜ now out ≡ zeros (length (now out)) ⌝ }
     ensures { λ r. ⌜ (r ≡ encodeOf (now (room .entry)) (length (now (out .entry)))) × (now (out .exit) ≡ outOf (now (room .entry)) (length (now (out .entry)))) ⌝ }
 {
@@ -107,18 +95,7 @@ fn write_table(
             place: 0,
         });
     }
-    write_sections(
-        &room[9..9 + words],
-        modes,
-        states,
-        runs,
-        ascii_rows,
-        wide_rows,
-        accepts,
-        escape_rows,
-        continuations,
-        out,
-    );
+    write_sections(&room[HEADER_NUMBERS..HEADER_NUMBERS + words], s, out);
     Encoded::Words(words)
 }
 
@@ -128,29 +105,8 @@ pub fn encode(room: &[u32], out: &mut [u32]) -> Encoded
 {
     written::clear(out);
     match judge::table_in(room) {
-        Sections::Found {
-            modes,
-            states,
-            runs,
-            ascii_rows,
-            wide_rows,
-            accepts,
-            escape_rows,
-            continuations,
-        } => write_table(
-            room[0],
-            room,
-            modes,
-            states,
-            runs,
-            ascii_rows,
-            wide_rows,
-            accepts,
-            escape_rows,
-            continuations,
-            out,
-        ),
-        Sections::Unfound(_) => Encoded::Refused(Refusal {
+        Layout::Found(s) => write_table(room[WORD_COUNT], room, s, out),
+        Layout::Unfound(_) => Encoded::Refused(Refusal {
             number: NOT_TABLE,
             place: 0,
         }),

@@ -2,6 +2,7 @@
 ghost use mathlib.Core.Path.{_≡_};
 ghost use Rattle.rules.specs.Rules.{sameCount, broken, brokenRow};
 use rules::word_at;
+use words::Sections;
 
 // Rules 3 and 7: as many runs as states, as many escape rows as states.
 fn same_count(words: &[u32], one: usize, other: usize) -> bool
@@ -11,31 +12,14 @@ fn same_count(words: &[u32], one: usize, other: usize) -> bool
 }
 
 // The number of the first index rule that is broken, or 0.
-pub fn first_broken(
-    words: &[u32],
-    modes: usize,
-    states: usize,
-    runs: usize,
-    ascii_rows: usize,
-    wide_rows: usize,
-    accepts: usize,
-    escape_rows: usize,
-    continuations: usize,
-) -> u32
-    ensures { λ r. ⌜ r ≡ broken (now (words .entry)) modes states runs «ascii_rows» «wide_rows» accepts «escape_rows» continuations ⌝ }
+pub fn first_broken(words: &[u32], s: Sections) -> u32
+    ensures { λ r. ⌜ r ≡ broken (now (words .entry)) s ⌝ }
 {
-    if rule_walk::mode_starts_are_states(words, modes, states) {
-        if rule_walk::states_are_valid(words, states, ascii_rows, wide_rows, accepts) {
-            if same_count(words, runs, states) {
-                if rule_walk::runs_are_classified(words, states, runs, ascii_rows) {
-                    return first_broken_row(
-                        words,
-                        states,
-                        ascii_rows,
-                        wide_rows,
-                        escape_rows,
-                        continuations,
-                    );
+    if rule_walk::mode_starts_are_states(words, s.modes, s.states) {
+        if rule_walk::states_are_valid(words, s.states, s.ascii, s.wide, s.accepts) {
+            if same_count(words, s.runs, s.states) {
+                if rule_walk::runs_are_classified(words, s.states, s.runs, s.ascii) {
+                    return first_broken_row(words, s);
                 }
                 return 4;
             }
@@ -47,21 +31,14 @@ pub fn first_broken(
 }
 
 // The same of the rules on the rows and what they lead to, from 5 on.
-fn first_broken_row(
-    words: &[u32],
-    states: usize,
-    ascii_rows: usize,
-    wide_rows: usize,
-    escape_rows: usize,
-    continuations: usize,
-) -> u32
-    ensures { λ r. ⌜ r ≡ brokenRow (now (words .entry)) states «ascii_rows» «wide_rows» «escape_rows» continuations ⌝ }
+fn first_broken_row(words: &[u32], s: Sections) -> u32
+    ensures { λ r. ⌜ r ≡ brokenRow (now (words .entry)) s ⌝ }
 {
-    if rule_walk::ascii_targets_are_good(words, states, ascii_rows) {
-        if rule_walk::wide_rows_are_searchable(words, states, wide_rows) {
-            if same_count(words, escape_rows, states) {
-                if rule_walk::escape_rows_are_valid(words, escape_rows, continuations) {
-                    if rule_walk::continuation_contexts_are_valid(words, continuations) {
+    if rule_walk::ascii_targets_are_good(words, s.states, s.ascii) {
+        if rule_walk::wide_rows_are_searchable(words, s.states, s.wide) {
+            if same_count(words, s.escapes, s.states) {
+                if rule_walk::escape_rows_are_valid(words, s.escapes, s.continuations) {
+                    if rule_walk::continuation_contexts_are_valid(words, s.continuations) {
                         return 0;
                     }
                     return 9;

@@ -17,6 +17,7 @@ use lib.Seq.{drop-cons}
 use Rattle.refusal.specs.declared.Refusal.{Refusal}
 use Rattle.refusal.specs.Said.{NOT-TABLE}
 use Rattle.refusal.specs.Lists.{pick, every}
+use Rattle.words.specs.declared.Sections.{Sections}
 use Rattle.words.specs.declared.Place.{Place}
 use Rattle.words.specs.declared.Place.the-variants.{Next, Refused}
 use Rattle.words.specs.Parse as parse
@@ -27,7 +28,7 @@ use Rattle.rules.specs.Flags.{acceptPlain, continuationPlain}
 use Rattle.rules.proofs.Laws.{in-section}
 use Rattle.rule_walk.specs.declared.Question.the-variants.{AcceptIsPlain, ContinuationIsPlain}
 use Rattle.rule_walk.specs.Questions.{allPass}
-use Rattle.room.specs.Room.{startsFrom, starts, each, shifted, placed, laterPlaces, places}
+use Rattle.room.specs.Room.{startsFrom, starts, each, shifted, placed, places}
 use Rattle.room.proofs.Writing.{record-limit}
 use Rattle.judge.specs.Standing.{standsAt, fourStand, eightStand, standing, behind, emptyFrom, flagsPlain}
 
@@ -64,9 +65,10 @@ stand-four a b c d n l e f g h = rw (e, f, g, h)
 pub ruleset standing-four = (needs, stand-four)
 
 -- and four behind those
-pub stand-eight : (a b c d e f g h : ℕ) (l : List ℕ) {p q : Bool} → p ≡ fourStand a b c d 1 l → q ≡ fourStand e f g h 5 l → (p && q) ≡ eightStand a b c d e f g h l
+pub stand-eight : (s : Sections) (l : List ℕ) {p q : Bool} → p ≡ fourStand (s .modes) (s .states) (s .runs) (s .ascii) 1 l
+    → q ≡ fourStand (s .wide) (s .accepts) (s .escapes) (s .continuations) 5 l → (p && q) ≡ eightStand s l
 unfolding eightStand
-stand-eight a b c d e f g h l i j = rw (i, j)
+stand-eight s l i j = rw (i, j)
 
 pub ruleset standing-eight = (needs, stand-eight)
 
@@ -140,17 +142,27 @@ behind-append xs ys n d = ap (λ (q : Place). behind q d) (standing-append xs ys
     go (Refused r) = sym (past-stays ys d)
 
 -- the places of all records, kind by kind
-pub places-stood : (w : List ℕ) (r v x e c n : ℕ) (d : List ℕ) {i j k l m : ℕ} → i ≡ behind (standing (placed runAt w r) n d) d → j ≡ behind (standing (placed wideAt w v) i d) d
-    → k ≡ behind (standing (placed acceptAt w x) j d) d → l ≡ behind (standing (placed escapeAt w e) k d) d → m ≡ behind (standing (placed continuationAt w c) l d) d
-    → m ≡ behind (standing (places w r v x e c) n d) d
-unfolding places laterPlaces
-places-stood w r v x e c n d {i} {j} {k} {l} f g h o p =
-    let A = placed runAt w r in
-    let B = placed wideAt w v in
-    let C = placed acceptAt w x in
-    let D = placed escapeAt w e in
-    let E = placed continuationAt w c in
-    p ∙ sym (behind-append A (B ++ (C ++ (D ++ E))) n d ∙ (rw (← f) (behind-append B (C ++ (D ++ E)) i d ∙ (rw (← g) (behind-append C (D ++ E) j d ∙ (rw (← h) (behind-append D E k d ∙ (rw (← o)))))))))
+module _ (w : List ℕ) (s : Sections) (n : ℕ) (d : List ℕ) where
+  abbrev A : List ℕ
+  A = placed runAt w (s .runs)
+
+  abbrev B : List ℕ
+  B = placed wideAt w (s .wide)
+
+  abbrev C : List ℕ
+  C = placed acceptAt w (s .accepts)
+
+  abbrev D : List ℕ
+  D = placed escapeAt w (s .escapes)
+
+  abbrev E : List ℕ
+  E = placed continuationAt w (s .continuations)
+
+  pub places-stood : {i j k l m : ℕ} → i ≡ behind (standing A n d) d → j ≡ behind (standing B i d) d → k ≡ behind (standing C j d) d → l ≡ behind (standing D k d) d
+      → m ≡ behind (standing E l d) d → m ≡ behind (standing (places w s) n d) d
+  places-stood {i} {j} {k} {l} f g h o p =
+      p ∙ sym (behind-append A (B ++ (C ++ (D ++ E))) n d ∙ (rw (← f) (behind-append B (C ++ (D ++ E)) i d ∙ (rw (← g) (behind-append C (D ++ E) j d
+      ∙ (rw (← h) (behind-append D E k d ∙ (rw (← o)))))))))
 
 -- Flags: each record of both sections is asked
 

@@ -14,19 +14,20 @@ use Rattle.refusal.proofs.Lists.{and-split, same-equal, equal-same}
 use Rattle.refusal.specs.Lists.{pick, sameList}
 use Rattle.words.specs.declared.Place.{Place}
 use Rattle.words.specs.declared.Place.the-variants.{Next, Refused}
-use Rattle.layout.specs.declared.Sections.{Sections}
-use Rattle.layout.specs.declared.Sections.the-variants.{Found, Unfound}
+use Rattle.words.specs.declared.Sections.{Sections}
+use Rattle.layout.specs.declared.Layout.{Layout}
+use Rattle.layout.specs.declared.Layout.the-variants.{Found, Unfound}
 use Rattle.layout.specs.Layout.{unfound, layoutOf}
-use Rattle.layout.proofs.Found.{Laid, found}
+use Rattle.layout.proofs.Found.{modes-there, states-there, runs-there, ascii-there, wide-there, accepts-there, escapes-there, continuations-there}
 use Rattle.rules.specs.Rules.{broken}
 use Rattle.written.specs.Over.{zeros, padded}
 use Rattle.limits.specs.Limits.{laidOut}
-use Rattle.room.specs.Room.{four, header, made, places, body, numbers, roomFor}
+use Rattle.room.specs.Room.{four, header, made, places, numbers, roomFor}
 use Rattle.room.proofs.Sizes.{made-length}
 use Rattle.codec.specs.declared.Decoded.the-variants as decoded
 use Rattle.codec.specs.declared.Decoded.the-variants.{Table}
 use Rattle.codec.specs.Decode.{judged, decodedFrom, keptFrom}
-use Rattle.judge.specs.Standing.{standsAt, standing, behind, emptyFrom, emptyBehind, fourStand, eightStand, flagsPlain, filled, sound}
+use Rattle.judge.specs.Standing.{Few, standsAt, standing, behind, emptyFrom, emptyBehind, fourStand, eightStand, flagsPlain, filled, sound}
 use Rattle.judge.specs.Judge.{wordsPart, Part, accepted, isTable, tableIn}
 use Rattle.judge.proofs.Stood.{moved, alike, stands-in, cons-stands, cons-stood, append-stands, append-stood, stood-within, stood-next, stood-is, stands-part, whole-stood, whole-stands}
 use Rattle.judge.proofs.Plain.{plain-made, made-plain}
@@ -81,51 +82,54 @@ module _ (w d : List ℕ) (part : w ≡ wordsPart d) (limit : length w ≤ 8192)
   unfolding wordsPart
   part-is = ap (λ (n : ℕ). take n (drop 9 d)) (sym count-is) ∙ sym part
 
-  module _ {m s r a v x e c : ℕ} (l : Laid w m s r a v x e c) where
-    abbrev all : List ℕ
-    all = numbers w m s r a v x e c
+  module _ {s : Sections} (l : layoutOf w ≡ Found s) where
+    abbrev one : List ℕ
+    one = four (s .modes) (s .states) (s .runs) (s .ascii)
 
-    to : filled w m s r a v x e c d ≡ true → padded (length d) all ≡ d
-    unfolding filled eightStand numbers header body emptyBehind
+    abbrev other : List ℕ
+    other = four (s .wide) (s .accepts) (s .escapes) (s .continuations)
+
+    to : filled w s d ≡ true → padded (length d) (numbers w s) ≡ d
+    unfolding filled eightStand header emptyBehind
     to h =
-        let i = and-split (eightStand m s r a v x e c d) _ h in
-        let j = and-split (flagsPlain w x c) _ (i .1) in
-        let f = and-split (fourStand m s r a 1 d) (fourStand v x e c 5 d) (i .0) in
-        let head = cons-stands (length w) (four m s r a ++ four v x e c) 0 d (stands-in (length w) 0 d (omega arith) count-is)
-        (append-stands (four m s r a) (four v x e c) 1 d (four-stands m s r a 1 d (f .0)) (four-stands v x e c 5 d (f .1))) in
-        let same = plain-made l (j .0) in
-        let words : standing (made w x e c) 9 d ≡ Next (9 + length w) = rw same (stands-part w 9 d part-is) in
-        go (standing (places w r v x e c) (length w + 9) d) refl (j .1) (λ q k. append-stands (header w m s r a v x e c) _ 0 d head (append-stands (made w x e c) _ 9 d words k))
+        let i = and-split (eightStand s d) _ h in
+        let j = and-split (flagsPlain w (s .accepts) (s .continuations)) _ (i .1) in
+        let f = and-split (fourStand (s .modes) (s .states) (s .runs) (s .ascii) 1 d) (fourStand (s .wide) (s .accepts) (s .escapes) (s .continuations) 5 d) (i .0) in
+        let head = cons-stands (length w) (one ++ other) 0 d (stands-in (length w) 0 d (omega arith) count-is)
+        (append-stands one other 1 d (four-stands (s .modes) (s .states) (s .runs) (s .ascii) 1 d (f .0)) (four-stands (s .wide) (s .accepts) (s .escapes) (s .continuations) 5 d (f .1))) in
+        let same = plain-made w l (j .0) in
+        let words : standing (made w s) 9 d ≡ Next (9 + length w) = rw same (stands-part w 9 d part-is) in
+        go (standing (places w s) (length w + 9) d) refl (j .1) (λ q k. append-stands (header w s) _ 0 d head (append-stands (made w s) _ 9 d words k))
       where
-        go : (o : Place) → standing (places w r v x e c) (length w + 9) d ≡ o → emptyBehind o d ≡ true
-            → ((q : ℕ) → standing (places w r v x e c) (9 + length w) d ≡ Next q → standing (header w m s r a v x e c ++ (made w x e c ++ places w r v x e c)) 0 d ≡ Next q)
-            → padded (length d) (header w m s r a v x e c ++ (made w x e c ++ places w r v x e c)) ≡ d
+        go : (o : Place) → standing (places w s) (length w + 9) d ≡ o → emptyBehind o d ≡ true
+            → ((q : ℕ) → standing (places w s) (9 + length w) d ≡ Next q → standing (numbers w s) 0 d ≡ Next q)
+            → padded (length d) (numbers w s) ≡ d
         go (Next q) g z k = let n : 9 + length w ≡ length w + 9 = omega arith in whole-stood _ d (k q (moved _ d _ _ n g)) z
         go (Refused o) g z k = let y : _≡_ {A = ℕ} 0 1 = cc in absurd (omega arith)
 
-    from : padded (length d) all ≡ d → filled w m s r a v x e c d ≡ true
-    unfolding filled eightStand numbers header body emptyBehind
+    from : padded (length d) (numbers w s) ≡ d → filled w s d ≡ true
+    unfolding filled eightStand header emptyBehind
     from h =
-        let i = whole-stands all d h in
-        let k₀ = append-stood (length w ∷ (four m s r a ++ four v x e c)) _ 0 d (i .0) in
-        let k₁ = append-stood (four m s r a) (four v x e c) 1 d (cons-stood (length w) _ 0 d (k₀ .1) .1) in
-        let f = four-stood m s r a 1 d (k₁ .1) in
-        let g = four-stood v x e c 5 d (moved (four v x e c) d 5 (k₁ .0) (sym (f .0)) (k₁ .2)) in
+        let i = whole-stands (numbers w s) d h in
+        let k₀ = append-stood (length w ∷ (one ++ other)) _ 0 d (i .0) in
+        let k₁ = append-stood one other 1 d (cons-stood (length w) _ 0 d (k₀ .1) .1) in
+        let f = four-stood (s .modes) (s .states) (s .runs) (s .ascii) 1 d (k₁ .1) in
+        let g = four-stood (s .wide) (s .accepts) (s .escapes) (s .continuations) 5 d (moved other d 5 (k₁ .0) (sym (f .0)) (k₁ .2)) in
         let q₉ : k₀ .0 ≡ 9 = g .0 in
-        let k₂ = append-stood (made w x e c) (places w r v x e c) 9 d (moved _ d 9 (k₀ .0) (sym q₉) (k₀ .2)) in
-        let n = stood-next (made w x e c) 9 d _ (k₂ .1) in
-        let o : k₂ .0 ≡ length w + 9 = omega (arith, n, made-length l) in
-        let same : made w x e c ≡ w = sym (stood-is (made w x e c) 9 d _ (k₂ .1)) ∙ ap (λ (p : ℕ). take p (drop 9 d)) (made-length l) ∙ part-is in
-        let b = made-plain l same in
-        let t = moved (places w r v x e c) d (length w + 9) (k₂ .0) (sym o) (k₂ .2) in
+        let k₂ = append-stood (made w s) (places w s) 9 d (moved _ d 9 (k₀ .0) (sym q₉) (k₀ .2)) in
+        let n = stood-next (made w s) 9 d _ (k₂ .1) in
+        let o : k₂ .0 ≡ length w + 9 = omega (arith, n, made-length w l) in
+        let same : made w s ≡ w = sym (stood-is (made w s) 9 d _ (k₂ .1)) ∙ ap (λ (p : ℕ). take p (drop 9 d)) (made-length w l) ∙ part-is in
+        let b = made-plain w l same in
+        let t = moved (places w s) d (length w + 9) (k₂ .0) (sym o) (k₂ .2) in
         rw (f .1, g .1, b, t) (i .1)
 
     -- all tests hold exactly where the room is what is written
-    filled-is : filled w m s r a v x e c d ≡ sameList (padded (length d) all) d
+    filled-is : filled w s d ≡ sameList (padded (length d) (numbers w s)) d
     filled-is =
-        alike (filled w m s r a v x e c d) (sameList (padded (length d) all) d)
+        alike (filled w s d) (sameList (padded (length d) (numbers w s)) d)
         (λ h. subst (λ o. sameList o d ≡ true) (sym (to h)) (equal-same d))
-        (λ h. from (same-equal (padded (length d) all) d h))
+        (λ h. from (same-equal (padded (length d) (numbers w s)) d h))
 
   laid-is : laidOut w (length d) ≡ layoutOf w
   unfolding laidOut
@@ -133,33 +137,33 @@ module _ (w d : List ℕ) (part : w ≡ wordsPart d) (limit : length w ≤ 8192)
 
 -- What judging a room is left with
 
-abbrev notTable : Sections
+abbrev notTable : Layout
 notTable = unfound NOT-TABLE 0
 
 module _ (w d : List ℕ) where
-  module _ {m s r a v x e c : ℕ} where
-    table-is : Part w d → layoutOf w ≡ Found m s r a v x e c → tableIn d ≡ pick (sound w m s r a v x e c d) (Found m s r a v x e c) notTable
+  module _ {s : Sections} where
+    table-is : Part w d → layoutOf w ≡ Found s → tableIn d ≡ pick (sound w s d) (Found s) notTable
     unfolding tableIn isTable sound decodedFrom judged keptFrom roomFor
     table-is p f =
-        let i = filled-is w d (p .is) (p .limit) (p .room) (found w f) in
-        rw (← (p .is), laid-is w d (p .is) (p .limit) (p .room), f, i) (go (eqb (broken w m s r a v x e c) 0))
+        let i = filled-is w d (p .is) (p .limit) (p .room) f in
+        rw (← (p .is), laid-is w d (p .is) (p .limit) (p .room), f, i) (go (eqb (broken w s) 0))
       where
-        go : (t : Bool) → pick (accepted (pick t (Table (getD w m 0) (getD w s 0) (length w)) (decoded.Refused (record { number = INDEX; place = broken w m s r a v x e c }))) && sameList (pick t (padded (length d) (numbers w m s r a v x e c)) (zeros (length d))) d) (Found m s r a v x e c) notTable
-            ≡ pick (t && sameList (padded (length d) (numbers w m s r a v x e c)) d) (Found m s r a v x e c) notTable
+        go : (t : Bool) → pick (accepted (pick t (Table (getD w (s .modes) 0) (getD w (s .states) 0) (length w)) (decoded.Refused (record { number = INDEX; place = broken w s }))) && sameList (pick t (padded (length d) (numbers w s)) (zeros (length d))) d) (Found s) notTable
+            ≡ pick (t && sameList (padded (length d) (numbers w s)) d) (Found s) notTable
         go true = refl
         go false = refl
 
-    pub is-there : {got : Sections} {ok : Bool} → Part w d → got ≡ layoutOf w → got ≡ Found m s r a v x e c → ok ≡ sound w m s r a v x e c d → ok ≡ true → Found m s r a v x e c ≡ tableIn d
+    pub is-there : {got : Layout} {ok : Bool} → Part w d → got ≡ layoutOf w → got ≡ Found s → ok ≡ sound w s d → ok ≡ true → Found s ≡ tableIn d
     is-there p g f o y = sym (table-is p (sym g ∙ f) ∙ (rw (← o, y)))
 
-    pub is-other : {got : Sections} {ok : Bool} {n : Sections} → Part w d → got ≡ layoutOf w → got ≡ Found m s r a v x e c → ok ≡ sound w m s r a v x e c d → ok ≡ false → n ≡ notTable → n ≡ tableIn d
+    pub is-other : {got : Layout} {ok : Bool} {n : Layout} → Part w d → got ≡ layoutOf w → got ≡ Found s → ok ≡ sound w s d → ok ≡ false → n ≡ notTable → n ≡ tableIn d
     is-other p g f o y h = h ∙ sym (table-is p (sym g ∙ f) ∙ (rw (← o, y)))
 
-  pub is-unlaid : {got : Sections} {o : Refusal} {n : Sections} → Part w d → got ≡ layoutOf w → got ≡ Unfound o → n ≡ notTable → n ≡ tableIn d
+  pub is-unlaid : {got : Layout} {o : Refusal} {n : Layout} → Part w d → got ≡ layoutOf w → got ≡ Unfound o → n ≡ notTable → n ≡ tableIn d
   unfolding tableIn isTable decodedFrom
   is-unlaid p g f h = let i = laid-is w d (p .is) (p .limit) (p .room) ∙ sym g ∙ f in h ∙ (rw (← (p .is), i))
 
-module _ (d : List ℕ) {n : Sections} where
+module _ (d : List ℕ) {n : Layout} where
   refused-is : {o : Refusal} → laidOut (wordsPart d) (length d) ≡ Unfound o → n ≡ notTable → n ≡ tableIn d
   unfolding tableIn isTable decodedFrom
   refused-is i h = h ∙ (rw i)
@@ -185,7 +189,7 @@ module _ (d : List ℕ) (k : ℕ) where
   unfolding wordsPart
   words-part e h l = let i : 9 + k - 9 ≡ getD d 0 0 = omega arith in record { is = rw i; limit = words-few l; room = h }
 
-pub same-found : (w : List ℕ) {x got : Sections} → got ≡ layoutOf w → got ≡ x → layoutOf w ≡ x
+pub same-found : (w : List ℕ) {x got : Layout} → got ≡ layoutOf w → got ≡ x → layoutOf w ≡ x
 same-found w g i = sym g ∙ i
 
 pub part-room : (w d : List ℕ) → Part w d → 16384 ≤ length d
@@ -215,34 +219,47 @@ module _ (xs : List ℕ) (n : ℕ) (d : List ℕ) {p : ℕ} where
       go (Next q) k = rw k
       go (Refused q) k = absurd (omega arith)
 
-module _ (w d : List ℕ) (m s r a v x e c : ℕ) where
-  pub filled-head : {ok : Bool} → ok ≡ eightStand m s r a v x e c d → ok ≡ false → false ≡ filled w m s r a v x e c d
+module _ (w d : List ℕ) (s : Sections) where
+  pub filled-head : {ok : Bool} → ok ≡ eightStand s d → ok ≡ false → false ≡ filled w s d
   unfolding filled
   filled-head o y = rw (← o, y)
 
-  pub filled-flags : {ok t : Bool} → ok ≡ eightStand m s r a v x e c d → ok ≡ true → t ≡ flagsPlain w x c → t ≡ false → false ≡ filled w m s r a v x e c d
+  pub filled-flags : {ok t : Bool} → ok ≡ eightStand s d → ok ≡ true → t ≡ flagsPlain w (s .accepts) (s .continuations) → t ≡ false → false ≡ filled w s d
   unfolding filled
   filled-flags o y u z = rw (← o, y, ← u, z)
 
   module _ {ok t : Bool} {p : ℕ} where
-    pub filled-places : ok ≡ eightStand m s r a v x e c d → ok ≡ true → t ≡ flagsPlain w x c → t ≡ true → p ≡ behind (standing (places w r v x e c) (length w + 9) d) d
-        → length w ≤ 8192 → 16384 ≤ length d → length d < p → false ≡ filled w m s r a v x e c d
+    pub filled-places : ok ≡ eightStand s d → ok ≡ true → t ≡ flagsPlain w (s .accepts) (s .continuations) → t ≡ true → p ≡ behind (standing (places w s) (length w + 9) d) d
+        → length w ≤ 8192 → 16384 ≤ length d → length d < p → false ≡ filled w s d
     unfolding filled
-    filled-places o y u z g h l f = rw (← o, y, ← u, z) (past (places w r v x e c) (length w + 9) d g (omega arith) f)
+    filled-places o y u z g h l f = rw (← o, y, ← u, z) (past (places w s) (length w + 9) d g (omega arith) f)
 
-    pub filled-all : {n : Bool} → ok ≡ eightStand m s r a v x e c d → ok ≡ true → t ≡ flagsPlain w x c → t ≡ true → p ≡ behind (standing (places w r v x e c) (length w + 9) d) d
-        → p ≤ length d → n ≡ emptyFrom p d → n ≡ filled w m s r a v x e c d
+    pub filled-all : {n : Bool} → ok ≡ eightStand s d → ok ≡ true → t ≡ flagsPlain w (s .accepts) (s .continuations) → t ≡ true → p ≡ behind (standing (places w s) (length w + 9) d) d
+        → p ≤ length d → n ≡ emptyFrom p d → n ≡ filled w s d
     unfolding filled
-    filled-all o y u z g f h = h ∙ (rw (← o, y, ← u, z) (here (places w r v x e c) (length w + 9) d g f))
+    filled-all o y u z g f h = h ∙ (rw (← o, y, ← u, z) (here (places w s) (length w + 9) d g f))
 
 -- no rule is broken, or one is
-module _ (w d : List ℕ) (m s r a v x e c : ℕ) {k : ℕ} where
-  pub sound-filled : {n : Bool} → k ≡ broken w m s r a v x e c → k ≡ 0 → n ≡ filled w m s r a v x e c d → n ≡ sound w m s r a v x e c d
+module _ (w d : List ℕ) (s : Sections) {k : ℕ} where
+  pub sound-filled : {n : Bool} → k ≡ broken w s → k ≡ 0 → n ≡ filled w s d → n ≡ sound w s d
   unfolding sound
   sound-filled b z h = h ∙ (rw (← b, eq-eqb k 0 z))
 
-  pub sound-broken : k ≡ broken w m s r a v x e c → (k ≡ 0 → ⊥) → false ≡ sound w m s r a v x e c d
+  pub sound-broken : k ≡ broken w s → (k ≡ 0 → ⊥) → false ≡ sound w s d
   unfolding sound
   sound-broken b z = rw (← b, ne-eqb k 0 z)
 
-pub ruleset filling = (needs, sound-filled, sound-broken, filled-head, filled-flags, filled-places, filled-all)
+-- the sections of few words
+pub few : (w : List ℕ) {s : Sections} → layoutOf w ≡ Found s → length w ≤ 8192 → Few s
+few w h k = record {
+  modes = omega (arith, modes-there w h);
+  states = omega (arith, states-there w h);
+  runs = omega (arith, runs-there w h);
+  ascii = omega (arith, ascii-there w h);
+  wide = omega (arith, wide-there w h);
+  accepts = omega (arith, accepts-there w h);
+  escapes = omega (arith, escapes-there w h);
+  continuations = omega (arith, continuations-there w h);
+}
+
+pub ruleset filling = (needs, few, sound-filled, sound-broken, filled-head, filled-flags, filled-places, filled-all)

@@ -15,12 +15,15 @@ use Rattle.words.specs.declared.Place.the-variants.{Next, Refused}
 use Rattle.words.specs.Parse.{andThen, many, section}
 use Rattle.words.specs.Records.{acceptAt, configAt, continuationAt}
 use Rattle.words.proofs.Bounds.{accept-sized, config-sized, configs-behind, section-in}
-use Rattle.layout.proofs.Found.{Laid}
+use Rattle.words.specs.declared.Sections.{Sections}
+use Rattle.layout.specs.declared.Layout.the-variants.{Found}
+use Rattle.layout.specs.Layout.{layoutOf}
+use Rattle.layout.proofs.Found.{found, order}
 use Rattle.rules.specs.Rules as rules
 use Rattle.rules.specs.Rules.{everyFrom, walk, everyIn}
 use Rattle.rules.proofs.Laws.{rest}
-use Rattle.room.specs.Room.{startsFrom, starts, each, copied, flag, renewed, acceptMade, configMade, continuationMade, laterMade, made}
-use Rattle.room.proofs.Sizes.{ordered, made-length}
+use Rattle.room.specs.Room.{startsFrom, starts, each, copied, flag, renewed, acceptMade, configMade, continuationMade, made}
+use Rattle.room.proofs.Sizes.{made-length}
 use Rattle.rules.specs.Flags.{plain, acceptPlain, configPlain, continuationPlain}
 use Rattle.judge.specs.Standing.{standing, flagsPlain}
 use Rattle.judge.proofs.Stood.{moved, next-is, stands-in, stands-is, cons-stands, cons-stood, append-stands, append-stood, stood-is, stands-part}
@@ -176,7 +179,16 @@ continuation-agrees w s p e =
 
 -- All flags
 
-module _ {w : List ℕ} {m s r a v x e c : ℕ} (l : Laid w m s r a v x e c) where
+module _ (w : List ℕ) {s : Sections} (laid : layoutOf w ≡ Found s) where
+  abbrev x : ℕ
+  x = s .accepts
+
+  abbrev e : ℕ
+  e = s .escapes
+
+  abbrev c : ℕ
+  c = s .continuations
+
   abbrev accepts : List ℕ
   accepts = renewed acceptAt acceptMade w x
 
@@ -185,36 +197,36 @@ module _ {w : List ℕ} {m s r a v x e c : ℕ} (l : Laid w m s r a v x e c) whe
 
   between : standing (copied w e (c - e)) e w ≡ Next c
   between =
-      let o = ordered l in
+      let o = order w laid in
       let i : e + (c - e) ≡ c = omega (arith, o .continuations) in
       copied-stands w e (c - e) (omega (arith, o .continuations, o .all)) ∙ ap Next i
 
   before : standing (copied w 0 x) 0 w ≡ Next x
   before =
-      let o = ordered l in
+      let o = order w laid in
       let i : 0 + x ≡ x = omega arith in
       copied-stands w 0 x (omega (arith, o .escapes, o .continuations, o .all)) ∙ ap Next i
 
-  pub plain-made : flagsPlain w x c ≡ true → made w x e c ≡ w
-  unfolding flagsPlain made laterMade
+  pub plain-made : flagsPlain w x c ≡ true → made w s ≡ w
+  unfolding flagsPlain
   plain-made h =
       let b = and-split _ _ h in
-      let i = section-agrees acceptAt acceptMade (acceptPlain w) w (accept-agrees w) x e (l .accepts) .0 (b .0) in
-      let j = section-agrees continuationAt continuationMade (continuationPlain w) w (continuation-agrees w) c (length w) (l .continuations) .0 (b .1) in
+      let i = section-agrees acceptAt acceptMade (acceptPlain w) w (accept-agrees w) x e (found w laid .accepts) .0 (b .0) in
+      let j = section-agrees continuationAt continuationMade (continuationPlain w) w (continuation-agrees w) c (length w) (found w laid .continuations) .0 (b .1) in
       let k = append-stands (copied w 0 x) _ 0 w before (append-stands accepts _ x w i (append-stands (copied w e (c - e)) continuations e w between j)) in
       let t = stood-is (copied w 0 x ++ (accepts ++ (copied w e (c - e) ++ continuations))) 0 w (length w) k in
-      let n = made-length l in
+      let n = made-length w laid in
       sym t ∙ ap (λ (o : ℕ). take o w) n ∙ take-length w
 
-  pub made-plain : made w x e c ≡ w → flagsPlain w x c ≡ true
-  unfolding flagsPlain made laterMade
+  pub made-plain : made w s ≡ w → flagsPlain w x c ≡ true
+  unfolding flagsPlain
   made-plain h =
       let all = copied w 0 x ++ (accepts ++ (copied w e (c - e) ++ continuations)) in
       let t : take (length all) w ≡ all = ap (λ (o : List ℕ). take (length o) w) h ∙ take-length w ∙ sym h in
       let k₀ = append-stood (copied w 0 x) _ 0 w (stands-part all 0 w t) in
       let k₁ = append-stood accepts _ x w (subst (λ q. standing (accepts ++ (copied w e (c - e) ++ continuations)) q w ≡ Next (0 + length all)) (next-is (sym (k₀ .1) ∙ before)) (k₀ .2)) in
-      let i = section-agrees acceptAt acceptMade (acceptPlain w) w (accept-agrees w) x e (l .accepts) .1 (k₁ .0) (k₁ .1) in
+      let i = section-agrees acceptAt acceptMade (acceptPlain w) w (accept-agrees w) x e (found w laid .accepts) .1 (k₁ .0) (k₁ .1) in
       let k₂ = append-stood (copied w e (c - e)) continuations e w (subst (λ q. standing (copied w e (c - e) ++ continuations) q w ≡ Next (0 + length all)) (i .0) (k₁ .2)) in
       let k₃ = subst (λ q. standing continuations q w ≡ Next (0 + length all)) (next-is (sym (k₂ .1) ∙ between)) (k₂ .2) in
-      let j = section-agrees continuationAt continuationMade (continuationPlain w) w (continuation-agrees w) c (length w) (l .continuations) .1 (0 + length all) k₃ in
+      let j = section-agrees continuationAt continuationMade (continuationPlain w) w (continuation-agrees w) c (length w) (found w laid .continuations) .1 (0 + length all) k₃ in
       rw (i .1) (j .1)

@@ -12,8 +12,9 @@ use Rattle.refusal.specs.declared.Refusal.{Refusal}
 use Rattle.refusal.specs.Said.{INDEX, NOT-TABLE}
 use Rattle.refusal.specs.Lists.{pick, sameList}
 use Rattle.refusal.proofs.Lists.{and-split, same-equal}
-use Rattle.layout.specs.declared.Sections.{Sections}
-use Rattle.layout.specs.declared.Sections.the-variants.{Found, Unfound}
+use Rattle.words.specs.declared.Sections.{Sections}
+use Rattle.layout.specs.declared.Layout.{Layout}
+use Rattle.layout.specs.declared.Layout.the-variants.{Found, Unfound}
 use Rattle.layout.specs.Layout.{unfound, layoutOf}
 use Rattle.limits.specs.Limits.{laidOut}
 use Rattle.limits.proofs.Laws.{kept}
@@ -28,7 +29,7 @@ use Rattle.table.proofs.Obeyed.{obeys-accepted, accepted-obeys}
 use Rattle.judge.specs.Judge.{wordsPart, accepted, isTable, tableIn}
 
 -- the sections of a table that obeys the rules
-pub laid : (t : Table) → Fields t → Rules t → length (wordsOf t) ≤ 8192 → (n : ℕ) → 16384 ≤ n → laidOut (wordsOf t) n ≡ sectionsOf t
+pub laid : (t : Table) → Fields t → Rules t → length (wordsOf t) ≤ 8192 → (n : ℕ) → 16384 ≤ n → laidOut (wordsOf t) n ≡ Found (sectionsOf t)
 unfolding laidOut
 laid t h r l n room = rw (le-ltb n 16384 room, le-ltb 8192 (length (wordsOf t)) l) (obeys-accepted t h l r .0)
 
@@ -37,16 +38,16 @@ pub accepted-table : (w : List ℕ) (n : ℕ) → Fit w → accepted (decodeOf w
 unfolding decodedFrom judged
 accepted-table w n f h = go (laidOut w n) refl h
   where
-    go : (o : Sections) → laidOut w n ≡ o → accepted (decodedFrom w o) ≡ true → (t : Table) × Fields t × Rules t × (w ≡ wordsOf t) × (length w ≤ 8192) × (16384 ≤ n)
+    go : (o : Layout) → laidOut w n ≡ o → accepted (decodedFrom w o) ≡ true → (t : Table) × Fields t × Rules t × (w ≡ wordsOf t) × (length w ≤ 8192) × (16384 ≤ n)
     go (Unfound o) i e = let z : _≡_ {A = ℕ} 0 1 = cc in absurd (omega arith)
-    go (Found m s r a v x y c) i e = unbroken (eqb (broken w m s r a v x y c) 0) refl e
+    go (Found s) i e = unbroken (eqb (broken w s) 0) refl e
       where
-        unbroken : (b : Bool) → eqb (broken w m s r a v x y c) 0 ≡ b → accepted (pick b (decoded.Table (getD w m 0) (getD w s 0) (length w)) (decoded.Refused (record { number = INDEX; place = broken w m s r a v x y c }))) ≡ true
+        unbroken : (b : Bool) → eqb (broken w s) 0 ≡ b → accepted (pick b (decoded.Table (getD w (s .modes) 0) (getD w (s .states) 0) (length w)) (decoded.Refused (record { number = INDEX; place = broken w s }))) ≡ true
             → (t : Table) × Fields t × Rules t × (w ≡ wordsOf t) × (length w ≤ 8192) × (16384 ≤ n)
         unbroken false u e = let z : _≡_ {A = ℕ} 0 1 = cc in absurd (omega arith)
         unbroken true u e =
             let k = kept w n i in
-            let t = accepted-obeys w m s r a v x y c f (k .limit) (k .laid) (eqb-true (broken w m s r a v x y c) 0 u) in
+            let t = accepted-obeys w s f (k .limit) (k .laid) (eqb-true (broken w s) 0 u) in
             (t .0, t .1, t .2, t .3, k .limit, k .room)
 
 -- a room that is a table is what decoding leaves for accepted words: its own
@@ -57,22 +58,22 @@ own-words d h =
     (s .0, sym (same-equal (roomOf (wordsPart d) (length d)) d (s .1)))
 
 -- a room that is a table has sections
-pub table-laid : (d : List ℕ) → isTable d ≡ true → (m s r a v x e c : ℕ) × (laidOut (wordsPart d) (length d) ≡ Found m s r a v x e c)
+pub table-laid : (d : List ℕ) → isTable d ≡ true → (s : Sections) × (laidOut (wordsPart d) (length d) ≡ Found s)
 unfolding isTable decodedFrom
 table-laid d h = go (laidOut (wordsPart d) (length d)) refl h
   where
-    go : (o : Sections) → laidOut (wordsPart d) (length d) ≡ o → (accepted (decodedFrom (wordsPart d) o) && sameList (roomOf (wordsPart d) (length d)) d) ≡ true
-        → (m s r a v x e c : ℕ) × (laidOut (wordsPart d) (length d) ≡ Found m s r a v x e c)
-    go (Found m s r a v x e c) i k = (m, s, r, a, v, x, e, c, i)
+    go : (o : Layout) → laidOut (wordsPart d) (length d) ≡ o → (accepted (decodedFrom (wordsPart d) o) && sameList (roomOf (wordsPart d) (length d)) d) ≡ true
+        → (s : Sections) × (laidOut (wordsPart d) (length d) ≡ Found s)
+    go (Found s) i k = (s, i)
     go (Unfound o) i k = let z : _≡_ {A = ℕ} 0 1 = cc in absurd (omega arith)
 
 -- the sections of a room are found exactly where it is a table
 module _ (d : List ℕ) where
-  pub found-table : {m s r a v x e c : ℕ} → tableIn d ≡ Found m s r a v x e c → (isTable d ≡ true) × (layoutOf (wordsPart d) ≡ Found m s r a v x e c)
+  pub found-table : {s : Sections} → tableIn d ≡ Found s → (isTable d ≡ true) × (layoutOf (wordsPart d) ≡ Found s)
   unfolding tableIn
-  found-table {m} {s} {r} {a} {v} {x} {e} {c} h = go (isTable d) refl h
+  found-table {s} h = go (isTable d) refl h
     where
-      go : (b : Bool) → isTable d ≡ b → pick b (layoutOf (wordsPart d)) (unfound NOT-TABLE 0) ≡ Found m s r a v x e c → (isTable d ≡ true) × (layoutOf (wordsPart d) ≡ Found m s r a v x e c)
+      go : (b : Bool) → isTable d ≡ b → pick b (layoutOf (wordsPart d)) (unfound NOT-TABLE 0) ≡ Found s → (isTable d ≡ true) × (layoutOf (wordsPart d) ≡ Found s)
       go true i k = (i, k)
       go false i k = let z : _≡_ {A = ℕ} 0 1 = cc in absurd (omega arith)
 
@@ -83,7 +84,7 @@ module _ (d : List ℕ) where
       go : (b : Bool) → isTable d ≡ b → pick b (layoutOf (wordsPart d)) (unfound NOT-TABLE 0) ≡ Unfound o → isTable d ≡ false
       go true i k =
           let t = table-laid d i in
-          let l = kept (wordsPart d) (length d) (t .8) .laid in
+          let l = kept (wordsPart d) (length d) (t .1) .laid in
           let z : _≡_ {A = ℕ} 0 1 = cc in
           absurd (omega arith)
       go false i k = i

@@ -4,18 +4,19 @@ use Prim.Native.Nat.{ℕ, _≤_}
 use mathlib.Core.Path.{_≡_}
 use mathlib.Core.List.{List}
 use mathlib.Core.Bool.{Bool, true, false, _&&_}
-use lib.ListN.{length, getD, take, drop}
+use lib.ListN.{length, take, drop}
 use Rattle.refusal.specs.Said.{NOT-TABLE}
 use Rattle.refusal.specs.Lists.{pick, sameList}
-use Rattle.layout.specs.declared.Sections.{Sections}
+use Rattle.refusal.specs.Header.{headerNumbers, wordCount}
+use Rattle.layout.specs.declared.Layout.{Layout}
 use Rattle.layout.specs.Layout.{unfound, layoutOf}
 use Rattle.codec.specs.declared.Decoded.{Decoded}
 use Rattle.codec.specs.declared.Decoded.the-variants.{Table, Refused}
 use Rattle.codec.specs.Decode.{decodeOf, roomOf}
 
--- the words of a room: as many as its first number says, behind its header of nine
+-- the words of a room: as many as its first number says, behind its header
 unfoldable pub wordsPart : List ℕ → List ℕ
-wordsPart d = take (getD d 0 0) (drop 9 d)
+wordsPart d = take (wordCount d) (drop headerNumbers d)
 
 -- w are the words of the room d, which is neither too short nor has too many words
 pub record Part (w d : List ℕ) : Type 0 where
@@ -32,5 +33,5 @@ unfoldable pub isTable : List ℕ → Bool
 isTable d = accepted (decodeOf (wordsPart d) (length d)) && sameList (roomOf (wordsPart d) (length d)) d
 
 -- the places of its sections in its words, or NOT-TABLE
-unfoldable pub tableIn : List ℕ → Sections
+unfoldable pub tableIn : List ℕ → Layout
 tableIn d = pick (isTable d) (layoutOf (wordsPart d)) (unfound NOT-TABLE 0)

@@ -1,12 +1,14 @@
--- How a room is compared, number by number, with what decoding writes. Below, d is the room, w its words, and m s r a v x e c the places
--- of the counts of modes, states, runs, ascii rows, wide rows, accepts, escape rows and continuations. Assumes nothing.
-use Prim.Native.Nat.{ℕ, _+_}
+-- How a room is compared, number by number, with what decoding writes. Below, d is the room, w its words, and s the places
+-- of the counts of their sections. Assumes nothing.
+use Prim.Native.Nat.{ℕ, _+_, _≤_}
 use mathlib.Core.List.{List, [], _∷_}
 use mathlib.Core.Bool.{Bool, false, _&&_}
 use lib.ListN.{length, getD, drop}
 use lib.Dec.{eqb, ltb}
 use Rattle.refusal.specs.Said.{NOT-TABLE}
 use Rattle.refusal.specs.Lists.{pick, every}
+use Rattle.refusal.specs.Header.{headerNumbers}
+use Rattle.words.specs.declared.Sections.{Sections}
 use Rattle.words.specs.declared.Place.{Place}
 use Rattle.words.specs.declared.Place.the-variants.{Next, Refused}
 use Rattle.words.specs.Parse.{refused}
@@ -40,13 +42,28 @@ unfoldable pub emptyBehind : Place → List ℕ → Bool
 emptyBehind (Next p) d = emptyFrom p d
 emptyBehind (Refused r) d = false
 
--- The places of sections and records: in the room, the words stand behind nine numbers
+-- The places of sections and records: in the room, the words stand behind the header
+
+-- the place p of the words, as it is in the room, is the number at n
+abbrev pub placeStands : ℕ → ℕ → List ℕ → Bool
+placeStands p n d = standsAt (p + headerNumbers) n d
 
 unfoldable pub fourStand : ℕ → ℕ → ℕ → ℕ → ℕ → List ℕ → Bool
-fourStand m s r a n d = ((standsAt (m + 9) n d && standsAt (s + 9) (n + 1) d) && standsAt (r + 9) (n + 2) d) && standsAt (a + 9) (n + 3) d
+fourStand p q r s n d = ((placeStands p n d && placeStands q (n + 1) d) && placeStands r (n + 2) d) && placeStands s (n + 3) d
 
-unfoldable pub eightStand : ℕ → ℕ → ℕ → ℕ → ℕ → ℕ → ℕ → ℕ → List ℕ → Bool
-eightStand m s r a v x e c d = fourStand m s r a 1 d && fourStand v x e c 5 d
+unfoldable pub eightStand : Sections → List ℕ → Bool
+eightStand s d = fourStand (s .modes) (s .states) (s .runs) (s .ascii) 1 d && fourStand (s .wide) (s .accepts) (s .escapes) (s .continuations) 5 d
+
+-- the places are those of few words
+pub record Few (s : Sections) : Type 0 where
+  pub modes : s .modes ≤ 8192
+  pub states : s .states ≤ 8192
+  pub runs : s .runs ≤ 8192
+  pub ascii : s .ascii ≤ 8192
+  pub wide : s .wide ≤ 8192
+  pub accepts : s .accepts ≤ 8192
+  pub escapes : s .escapes ≤ 8192
+  pub continuations : s .continuations ≤ 8192
 
 -- Flags that are 0 or 1
 
@@ -55,9 +72,9 @@ flagsPlain w x c = everyIn acceptAt (acceptPlain w) w x && everyIn continuationA
 
 -- All of it
 
-unfoldable pub filled : List ℕ → ℕ → ℕ → ℕ → ℕ → ℕ → ℕ → ℕ → ℕ → List ℕ → Bool
-filled w m s r a v x e c d = eightStand m s r a v x e c d && (flagsPlain w x c && emptyBehind (standing (places w r v x e c) (length w + 9) d) d)
+unfoldable pub filled : List ℕ → Sections → List ℕ → Bool
+filled w s d = eightStand s d && (flagsPlain w (s .accepts) (s .continuations) && emptyBehind (standing (places w s) (length w + headerNumbers) d) d)
 
 -- and no index rule is broken
-unfoldable pub sound : List ℕ → ℕ → ℕ → ℕ → ℕ → ℕ → ℕ → ℕ → ℕ → List ℕ → Bool
-sound w m s r a v x e c d = eqb (broken w m s r a v x e c) 0 && filled w m s r a v x e c d
+unfoldable pub sound : List ℕ → Sections → List ℕ → Bool
+sound w s d = eqb (broken w s) 0 && filled w s d

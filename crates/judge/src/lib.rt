@@ -3,25 +3,28 @@
 ghost use mathlib.Core.Path.{_≡_};
 ghost use Prim.Native.Nat.{_≤_};
 ghost use lib.ListN.{length, getD};
-ghost use Rattle.layout.specs.declared.Sections.the-variants.{Found};
+ghost use Rattle.layout.specs.declared.Layout.the-variants.{Found};
 ghost use Rattle.layout.specs.Layout.{layoutOf, unfound};
 ghost use Rattle.refusal.specs.Said.{NOT-TABLE};
 ghost use Rattle.judge.specs.Standing.{emptyFrom, filled, sound};
 ghost use Rattle.judge.specs.Judge.{Part, tableIn};
-use layout::Sections;
+use layout::Layout;
+use refusal::HEADER_NUMBERS;
 use refusal::MAX_WORDS;
 use refusal::NOT_TABLE;
 use refusal::ROOM_NUMBERS;
 use refusal::Refusal;
+use refusal::WORD_COUNT;
+use words::Sections;
 
 mod flags;
 mod places;
 
 // No table.
-fn not_table() -> Sections
+fn not_table() -> Layout
     ensures { λ r. ⌜ r ≡ unfound NOT-TABLE 0 ⌝ }
 {
-    Sections::Unfound(Refusal {
+    Layout::Unfound(Refusal {
         number: NOT_TABLE,
         place: 0,
     })
@@ -41,45 +44,15 @@ fn is_empty_from(room: &[u32], n: usize) -> bool
 }
 
 // The room, beside its words and their count, has the numbers that decoding writes for the words.
-fn is_filled(
-    words: &[u32],
-    modes: usize,
-    states: usize,
-    runs: usize,
-    ascii_rows: usize,
-    wide_rows: usize,
-    accepts: usize,
-    escape_rows: usize,
-    continuations: usize,
-    room: &[u32],
-) -> bool
-    requires found { ⌜ layoutOf (now words) ≡ Found modes states runs «ascii_rows» «wide_rows» accepts «escape_rows» continuations ⌝ }
+fn is_filled(words: &[u32], s: Sections, room: &[u32]) -> bool
+    requires found { ⌜ layoutOf (now words) ≡ Found s ⌝ }
     requires limit { ⌜ length (now words) ≤ 8192 ⌝ }
     requires fits { ⌜ 16384 ≤ length (now room) ⌝ }
-    ensures { λ r. ⌜ r ≡ filled (now (words .entry)) modes states runs «ascii_rows» «wide_rows» accepts «escape_rows» continuations (now (room .entry)) ⌝ }
+    ensures { λ r. ⌜ r ≡ filled (now (words .entry)) s (now (room .entry)) ⌝ }
 {
-    if places::eight_stand(
-        modes,
-        states,
-        runs,
-        ascii_rows,
-        wide_rows,
-        accepts,
-        escape_rows,
-        continuations,
-        room,
-    ) {
-        if flags::flags_are_plain(words, accepts, continuations) {
-            let p = places::places_stand(
-                words,
-                runs,
-                wide_rows,
-                accepts,
-                escape_rows,
-                continuations,
-                room,
-                words.len() + 9,
-            );
+    if places::eight_stand(s, room) {
+        if flags::flags_are_plain(words, s.accepts, s.continuations) {
+            let p = places::places_stand(words, s, room, words.len() + HEADER_NUMBERS);
             if p <= room.len() {
                 return is_empty_from(room, p);
             }
@@ -89,99 +62,38 @@ fn is_filled(
 }
 
 // The words break no index rule, and the room is filled.
-fn is_sound(
-    words: &[u32],
-    modes: usize,
-    states: usize,
-    runs: usize,
-    ascii_rows: usize,
-    wide_rows: usize,
-    accepts: usize,
-    escape_rows: usize,
-    continuations: usize,
-    room: &[u32],
-) -> bool
-    requires found { ⌜ layoutOf (now words) ≡ Found modes states runs «ascii_rows» «wide_rows» accepts «escape_rows» continuations ⌝ }
+fn is_sound(words: &[u32], s: Sections, room: &[u32]) -> bool
+    requires found { ⌜ layoutOf (now words) ≡ Found s ⌝ }
     requires limit { ⌜ length (now words) ≤ 8192 ⌝ }
     requires fits { ⌜ 16384 ≤ length (now room) ⌝ }
-    ensures { λ r. ⌜ r ≡ sound (now (words .entry)) modes states runs «ascii_rows» «wide_rows» accepts «escape_rows» continuations (now (room .entry)) ⌝ }
+    ensures { λ r. ⌜ r ≡ sound (now (words .entry)) s (now (room .entry)) ⌝ }
 {
-    let rule = index_rules::first_broken(
-        words,
-        modes,
-        states,
-        runs,
-        ascii_rows,
-        wide_rows,
-        accepts,
-        escape_rows,
-        continuations,
-    );
+    let rule = index_rules::first_broken(words, s);
     if rule == 0 {
-        return is_filled(
-            words,
-            modes,
-            states,
-            runs,
-            ascii_rows,
-            wide_rows,
-            accepts,
-            escape_rows,
-            continuations,
-            room,
-        );
+        return is_filled(words, s, room);
     }
     false
 }
 
 // The sections of the table whose words and room these are, or NOT-TABLE.
-fn find_table(words: &[u32], room: &[u32]) -> Sections
+fn find_table(words: &[u32], room: &[u32]) -> Layout
     requires part { ⌜ Part (now words) (now room) ⌝ }
     requires limit { ⌜ length (now words) ≤ 8192 ⌝ }
     ensures { λ r. ⌜ r ≡ tableIn (now (room .entry)) ⌝ }
 {
     match layout::find_sections(words) {
-        Sections::Found {
-            modes,
-            states,
-            runs,
-            ascii_rows,
-            wide_rows,
-            accepts,
-            escape_rows,
-            continuations,
-        } => {
-            if is_sound(
-                words,
-                modes,
-                states,
-                runs,
-                ascii_rows,
-                wide_rows,
-                accepts,
-                escape_rows,
-                continuations,
-                room,
-            ) {
-                return Sections::Found {
-                    modes,
-                    states,
-                    runs,
-                    ascii_rows,
-                    wide_rows,
-                    accepts,
-                    escape_rows,
-                    continuations,
-                };
+        Layout::Found(s) => {
+            if is_sound(words, s, room) {
+                return Layout::Found(s);
             }
             not_table()
         }
-        Sections::Unfound(_) => not_table(),
+        Layout::Unfound(_) => not_table(),
     }
 }
 
 // The same of a room that is long enough, whose first number is `count`.
-fn find_counted(count: u32, room: &[u32]) -> Sections
+fn find_counted(count: u32, room: &[u32]) -> Layout
     requires first { ⌜ count ≡ getD (now room) 0 0 ⌝ }
     requires fits { ⌜ 16384 ≤ length (now room) ⌝ }
     ensures { λ r. ⌜ r ≡ tableIn (now (room .entry)) ⌝ }
@@ -190,16 +102,16 @@ fn find_counted(count: u32, room: &[u32]) -> Sections
     if MAX_WORDS < words {
         return not_table();
     }
-    find_table(&room[9..9 + words], room)
+    find_table(&room[HEADER_NUMBERS..HEADER_NUMBERS + words], room)
 }
 
 // Where the sections of the table in a room start, as places in its words part; NOT-TABLE exactly when the room isn't what decoding
 // leaves for some accepted words.
-pub fn table_in(room: &[u32]) -> Sections
+pub fn table_in(room: &[u32]) -> Layout
     ensures { λ r. ⌜ r ≡ tableIn (now (room .entry)) ⌝ }
 {
     if room.len() < ROOM_NUMBERS {
         return not_table();
     }
-    find_counted(room[0], room)
+    find_counted(room[WORD_COUNT], room)
 }

@@ -5,9 +5,15 @@ ghost use Prim.Native.Nat.{_≤_, _<_, _+_};
 ghost use lib.ListN.{length};
 ghost use Rattle.records.specs.Kinds.{recordAt};
 ghost use Rattle.room.specs.Room.{placed, places};
-ghost use Rattle.judge.specs.Standing.{standsAt, fourStand, eightStand, standing, behind};
+ghost use Rattle.layout.specs.declared.Layout.the-variants.{Found};
+ghost use Rattle.layout.specs.Layout.{layoutOf};
+ghost use Rattle.judge.specs.Standing.{Few, standsAt, fourStand, eightStand, standing, behind};
 use records::Kind;
+use refusal::HEADER_NUMBERS;
+use refusal::MODES_START;
+use refusal::WIDE_START;
 use words::Place;
+use words::Sections;
 
 // The place in the room of what is at `at` of the words stands at `n`.
 fn place_stands(at: usize, room: &[u32], n: usize) -> bool
@@ -17,7 +23,7 @@ fn place_stands(at: usize, room: &[u32], n: usize) -> bool
     if room.len() <= n {
         return false;
     }
-    room[n] == (at + 9) as u32
+    room[n] == (at + HEADER_NUMBERS) as u32
 }
 
 // The same of four, one behind the other.
@@ -33,22 +39,19 @@ fn four_stand(a: usize, b: usize, c: usize, d: usize, room: &[u32], n: usize) ->
 }
 
 // The same of the counts of the eight sections, behind the room's first number.
-pub(crate) fn eight_stand(
-    modes: usize,
-    states: usize,
-    runs: usize,
-    ascii_rows: usize,
-    wide_rows: usize,
-    accepts: usize,
-    escape_rows: usize,
-    continuations: usize,
-    room: &[u32],
-) -> bool
-    requires within { ⌜ (modes ≤ 8192) × ((states ≤ 8192) × ((runs ≤ 8192) × ((«ascii_rows» ≤ 8192) × ((«wide_rows» ≤ 8192) × ((accepts ≤ 8192) × ((«escape_rows» ≤ 8192) × (continuations ≤ 8192))))))) ⌝ }
-    ensures { λ r. ⌜ r ≡ eightStand modes states runs «ascii_rows» «wide_rows» accepts «escape_rows» continuations (now (room .entry)) ⌝ }
+pub(crate) fn eight_stand(s: Sections, room: &[u32]) -> bool
+    requires within { ⌜ Few s ⌝ }
+    ensures { λ r. ⌜ r ≡ eightStand s (now (room .entry)) ⌝ }
 {
-    four_stand(modes, states, runs, ascii_rows, room, 1)
-        & four_stand(wide_rows, accepts, escape_rows, continuations, room, 5)
+    four_stand(s.modes, s.states, s.runs, s.ascii, room, MODES_START)
+        & four_stand(
+            s.wide,
+            s.accepts,
+            s.escapes,
+            s.continuations,
+            room,
+            WIDE_START,
+        )
 }
 
 // The places of the records of a kind, whose count stands at `at`.
@@ -80,24 +83,14 @@ fn record_places_stand(kind: Kind, words: &[u32], at: usize, room: &[u32], n: us
 }
 
 // All places of records.
-pub(crate) fn places_stand(
-    words: &[u32],
-    runs: usize,
-    wide_rows: usize,
-    accepts: usize,
-    escape_rows: usize,
-    continuations: usize,
-    room: &[u32],
-    n: usize,
-) -> usize
-    requires rows { ⌜ (runs ≤ «wide_rows») × («wide_rows» ≤ accepts) ⌝ }
-    requires { ⌜ (accepts ≤ «escape_rows») × ((«escape_rows» ≤ continuations) × (continuations + 1 ≤ length (now words))) ⌝ }
+pub(crate) fn places_stand(words: &[u32], s: Sections, room: &[u32], n: usize) -> usize
+    requires found { ⌜ layoutOf (now words) ≡ Found s ⌝ }
     requires limit { ⌜ length (now words) ≤ 8192 ⌝ }
-    ensures { λ r. ⌜ r ≡ behind (standing (places (now (words .entry)) runs «wide_rows» accepts «escape_rows» continuations) n (now (room .entry))) (now (room .entry)) ⌝ }
+    ensures { λ r. ⌜ r ≡ behind (standing (places (now (words .entry)) s) n (now (room .entry))) (now (room .entry)) ⌝ }
 {
-    let a = record_places_stand(Kind::AsciiRun, words, runs, room, n);
-    let b = record_places_stand(Kind::WideRow, words, wide_rows, room, a);
-    let c = record_places_stand(Kind::Accept, words, accepts, room, b);
-    let d = record_places_stand(Kind::EscapeRow, words, escape_rows, room, c);
-    record_places_stand(Kind::Continuation, words, continuations, room, d)
+    let a = record_places_stand(Kind::AsciiRun, words, s.runs, room, n);
+    let b = record_places_stand(Kind::WideRow, words, s.wide, room, a);
+    let c = record_places_stand(Kind::Accept, words, s.accepts, room, b);
+    let d = record_places_stand(Kind::EscapeRow, words, s.escapes, room, c);
+    record_places_stand(Kind::Continuation, words, s.continuations, room, d)
 }

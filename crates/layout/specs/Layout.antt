@@ -8,52 +8,74 @@ use Rattle.refusal.specs.Fixed.{tag}
 use Rattle.refusal.specs.Lists.{pick}
 use Rattle.words.specs.declared.Place.{Place}
 use Rattle.words.specs.declared.Place.the-variants.{Next, Refused}
-use Rattle.words.specs.Parse.{section}
+use Rattle.words.specs.declared.Sections.{Sections}
+use Rattle.words.specs.Parse.{andThen, section}
 use Rattle.words.specs.Records.{modeAt, stateAt, runAt, asciiAt, wideAt, acceptAt, escapeAt, continuationAt}
-use Rattle.layout.specs.declared.Sections.{Sections}
-use Rattle.layout.specs.declared.Sections.the-variants.{Found, Unfound}
+use Rattle.layout.specs.declared.Layout.{Layout}
+use Rattle.layout.specs.declared.Layout.the-variants.{Found, Unfound}
 
 -- the places of the sections' counts, or a refusal
-abbrev pub said : Sections → Said
-said (Found modes states runs ascii wide accepts escapes continuations) = ok (modes ∷ states ∷ runs ∷ ascii ∷ wide ∷ accepts ∷ escapes ∷ continuations ∷ [])
+abbrev pub said : Layout → Said
+said (Found s) = ok (s .modes ∷ s .states ∷ s .runs ∷ s .ascii ∷ s .wide ∷ s .accepts ∷ s .escapes ∷ s .continuations ∷ [])
 said (Unfound r) = no (r .number) (r .place)
 
-abbrev pub unfound : ℕ → ℕ → Sections
+abbrev pub unfound : ℕ → ℕ → Layout
 unfound n p = Unfound (record { number = n; place = p })
 
--- read on from where a section stopped
-unfoldable pub onward : Place → (ℕ → Sections) → Sections
-onward (Next p) k = k p
-onward (Refused r) k = Unfound r
+-- The modes stand behind the tag, and each other section behind the one before it: where reading goes on behind each, or why it does not
 
--- From the end to the front: what is found once the places before are known. "LEFT | words remain | first unread"
-abbrev pub atEnd : List ℕ → ℕ → ℕ → ℕ → ℕ → ℕ → ℕ → ℕ → ℕ → ℕ → Sections
-atEnd w modes states runs ascii wide accepts escapes continuations end = pick (ltb end (length w)) (unfound LEFT end) (Found modes states runs ascii wide accepts escapes continuations)
+abbrev pub afterModes : List ℕ → Place
+afterModes w = andThen (Next 1) (section modeAt w)
 
-abbrev pub fromContinuations : List ℕ → ℕ → ℕ → ℕ → ℕ → ℕ → ℕ → ℕ → ℕ → Sections
-fromContinuations w modes states runs ascii wide accepts escapes continuations = onward (section continuationAt w continuations) (atEnd w modes states runs ascii wide accepts escapes continuations)
+abbrev pub afterStates : List ℕ → Place
+afterStates w = andThen (afterModes w) (section stateAt w)
 
-abbrev pub fromEscapeRows : List ℕ → ℕ → ℕ → ℕ → ℕ → ℕ → ℕ → ℕ → Sections
-fromEscapeRows w modes states runs ascii wide accepts escapes = onward (section escapeAt w escapes) (fromContinuations w modes states runs ascii wide accepts escapes)
+abbrev pub afterRuns : List ℕ → Place
+afterRuns w = andThen (afterStates w) (section runAt w)
 
-abbrev pub fromAccepts : List ℕ → ℕ → ℕ → ℕ → ℕ → ℕ → ℕ → Sections
-fromAccepts w modes states runs ascii wide accepts = onward (section acceptAt w accepts) (fromEscapeRows w modes states runs ascii wide accepts)
+abbrev pub afterAscii : List ℕ → Place
+afterAscii w = andThen (afterRuns w) (section asciiAt w)
 
-abbrev pub fromWideRows : List ℕ → ℕ → ℕ → ℕ → ℕ → ℕ → Sections
-fromWideRows w modes states runs ascii wide = onward (section wideAt w wide) (fromAccepts w modes states runs ascii wide)
+abbrev pub afterWide : List ℕ → Place
+afterWide w = andThen (afterAscii w) (section wideAt w)
 
-abbrev pub fromAsciiRows : List ℕ → ℕ → ℕ → ℕ → ℕ → Sections
-fromAsciiRows w modes states runs ascii = onward (section asciiAt w ascii) (fromWideRows w modes states runs ascii)
+abbrev pub afterAccepts : List ℕ → Place
+afterAccepts w = andThen (afterWide w) (section acceptAt w)
 
-abbrev pub fromRuns : List ℕ → ℕ → ℕ → ℕ → Sections
-fromRuns w modes states runs = onward (section runAt w runs) (fromAsciiRows w modes states runs)
+abbrev pub afterEscapes : List ℕ → Place
+afterEscapes w = andThen (afterAccepts w) (section escapeAt w)
 
-abbrev pub fromStates : List ℕ → ℕ → ℕ → Sections
-fromStates w modes states = onward (section stateAt w states) (fromRuns w modes states)
+abbrev pub afterContinuations : List ℕ → Place
+afterContinuations w = andThen (afterEscapes w) (section continuationAt w)
 
-abbrev pub fromModes : List ℕ → ℕ → Sections
-fromModes w modes = onward (section modeAt w modes) (fromStates w modes)
+-- so the eight start here, where all of them are read
+unfoldable pub placeOf : Place → ℕ
+placeOf (Next p) = p
+placeOf (Refused r) = 0
+
+abbrev pub sectionsFrom : Place → Place → Place → Place → Place → Place → Place → Sections
+sectionsFrom s r a v x e c = record {
+  modes = 1;
+  states = placeOf s;
+  runs = placeOf r;
+  ascii = placeOf a;
+  wide = placeOf v;
+  accepts = placeOf x;
+  escapes = placeOf e;
+  continuations = placeOf c;
+}
+
+abbrev pub sectionsIn : List ℕ → Sections
+sectionsIn w = sectionsFrom (afterModes w) (afterStates w) (afterRuns w) (afterAscii w) (afterWide w) (afterAccepts w) (afterEscapes w)
+
+-- "LEFT | words remain | first unread"
+abbrev pub atEnd : List ℕ → Sections → ℕ → Layout
+atEnd w s end = pick (ltb end (length w)) (unfound LEFT end) (Found s)
+
+unfoldable pub closed : List ℕ → Sections → Place → Layout
+closed w s (Next end) = atEnd w s end
+closed w s (Refused r) = Unfound r
 
 -- The tag, then the eight sections in order; SHORT and TAG at 0
-unfoldable pub layoutOf : List ℕ → Sections
-layoutOf w = pick (eqb (length w) 0) (unfound SHORT 0) (pick (eqb (getD w 0 0) tag) (fromModes w 1) (unfound TAG 0))
+unfoldable pub layoutOf : List ℕ → Layout
+layoutOf w = pick (eqb (length w) 0) (unfound SHORT 0) (pick (eqb (getD w 0 0) tag) (closed w (sectionsIn w) (afterContinuations w)) (unfound TAG 0))

@@ -12,8 +12,8 @@ use borrow.Author.Tests.{ltb-true, ltb-false, lt-ltb, le-ltb, ne-eqb}
 use denote.Ref.{RefT}
 use Rattle.refusal.specs.Said.{Said, ok, no, SHORT, TAG, FIELD, LIMIT, LEFT, INDEX, ROOM}
 use Rattle.refusal.specs.Lists.{pick}
-use Rattle.layout.specs.declared.Sections.{Sections}
-use Rattle.layout.specs.declared.Sections.the-variants.{Found, Unfound}
+use Rattle.layout.specs.declared.Layout.{Layout}
+use Rattle.layout.specs.declared.Layout.the-variants.{Found, Unfound}
 use Rattle.layout.specs.Layout.{unfound, layoutOf}
 use Rattle.rules.specs.Rules.{broken}
 use Rattle.written.specs.Over.{zeros}
@@ -24,7 +24,7 @@ use Rattle.codec.specs.Decode.{said, judged, decodedFrom, decodeOf, keptFrom, r
 use Rattle.table.specs.Table.{Table, wordsOf, Fields}
 use Rattle.table.specs.Whole.{Fit}
 use Rattle.table.specs.Rules.{Rules, FirstOf, FirstBroken}
-use Rattle.table.specs.Places.{statesPlace, sectionsOf, brokenOf}
+use Rattle.table.specs.Places.{sectionsOf, brokenOf}
 use Rattle.table.specs.Fronts.{Exactly}
 use Rattle.table.proofs.Codec.{at-head}
 use Rattle.table.proofs.Placed.{modes-stand, states-stand, layout-is, found-table}
@@ -59,11 +59,11 @@ module _ (w : List ℕ) (n : ℕ) where
 -- the words of a table, whose fields are allowed: its rules judge it
 module _ (t : Table) (h : Fields t) (n : ℕ) (r : Read (wordsOf t) n) where
   -- its sections are found
-  laid : laidOut (wordsOf t) n ≡ sectionsOf t
+  laid : laidOut (wordsOf t) n ≡ Found (sectionsOf t)
   laid = is-read (wordsOf t) n r ∙ layout-is t h
 
-  rules-judge : decodeOf (wordsOf t) n ≡ judged (wordsOf t) 1 (statesPlace t) (brokenOf t)
-  unfolding decodedFrom sectionsOf
+  rules-judge : decodeOf (wordsOf t) n ≡ judged (wordsOf t) (sectionsOf t) (brokenOf t)
+  unfolding decodedFrom
   rules-judge = ap (decodedFrom (wordsOf t)) laid
 
   -- it obeys the rules: its modes, states and words are counted
@@ -77,8 +77,8 @@ module _ (t : Table) (h : Fields t) (n : ℕ) (r : Read (wordsOf t) n) where
   breaks k p b = ap said rules-judge ∙ (rw (broken-is t h (r .1) k p .1 b, ne-eqb k 0 (λ z. omega arith)))
 
   -- the room of a table that obeys the rules
-  obeys-room : Rules t → roomOf (wordsOf t) n ≡ roomFor (wordsOf t) n (sectionsOf t)
-  unfolding keptFrom sectionsOf
+  obeys-room : Rules t → roomOf (wordsOf t) n ≡ roomFor (wordsOf t) n (Found (sectionsOf t))
+  unfolding keptFrom
   obeys-room o = ap (keptFrom (wordsOf t) n) laid ∙ (rw (obeys-accepted t h (r .1) o .1))
 
 -- of rules that are numbered from n on, the first that is broken has no lower number
@@ -116,9 +116,9 @@ table-why t h n r = go (brokenOf t) refl
 
 module _ (w : List ℕ) (n : ℕ) (f : Fit w) where
   -- the words are read
-  read-why : Read w n → (s : Sections) → layoutOf w ≡ s → Why w n (said (decodeOf w n))
+  read-why : Read w n → (s : Layout) → layoutOf w ≡ s → Why w n (said (decodeOf w n))
   read-why r (Unfound q) e = subst (Why w n) (sym (not-laid w n r e)) (unlaid r e)
-  read-why r (Found modes states runs ascii wide accepts escapes continuations) e =
+  read-why r (Found s) e =
       let t = found-table w f e in
       subst (λ v. Why v n (said (decodeOf v n))) (sym (t .2)) (table-why (t .0) (t .1) n (subst (λ v. Read v n) (t .2) r))
 
@@ -213,18 +213,18 @@ module _ (w : List ℕ) (n : ℕ) (enough : 16384 ≤ n) {modes states count : �
       e ∙ (rw (a .of-modes, a .of-states, a .of-words))
 
   -- and the room is the table's
-  keeps-accepted : roomOf w n ≡ roomFor w n (sectionsOf (a .table))
+  keeps-accepted : roomOf w n ≡ roomFor w n (Found (sectionsOf (a .table)))
   keeps-accepted =
       let t = a .table in
-      subst (λ v. roomOf v n ≡ roomFor v n (sectionsOf t)) (sym (a .layout)) (obeys-room t (a .fields) n reads (a .rules))
+      subst (λ v. roomOf v n ≡ roomFor v n (Found (sectionsOf t))) (sym (a .layout)) (obeys-room t (a .fields) n reads (a .rules))
 
 -- where decode refuses, the room holds zeros
-keeps-zeros : (w : List ℕ) (n : ℕ) {k p : ℕ} (s : Sections) → said (decodedFrom w s) ≡ no k p → keptFrom w n s ≡ zeros n
+keeps-zeros : (w : List ℕ) (n : ℕ) {k p : ℕ} (s : Layout) → said (decodedFrom w s) ≡ no k p → keptFrom w n s ≡ zeros n
 unfolding decodedFrom judged keptFrom
 keeps-zeros w n (Unfound r) e = refl
-keeps-zeros w n {k} {p} (Found m s r a v x c d) e = go (broken w m s r a v x c d) e
+keeps-zeros w n {k} {p} (Found s) e = go (broken w s) e
   where
-    go : (i : ℕ) → said (judged w m s i) ≡ no k p → pick (eqb i 0) (roomFor w n (Found m s r a v x c d)) (zeros n) ≡ zeros n
+    go : (i : ℕ) → said (judged w s i) ≡ no k p → pick (eqb i 0) (roomFor w n (Found s)) (zeros n) ≡ zeros n
     go zero h = let z : _≡_ {A = ℕ} 0 1 = cc in absurd (omega arith)
     go (suc i) h = rw (ne-eqb (suc i) 0 (λ z. omega arith))
 
@@ -259,11 +259,11 @@ refused-zero words room x left a number p e =
 
 -- accepted: the room holds the numbers of the table, by the places of its sections, and zeros behind them
 pub accepted-room : (words room : RefT (List ℕ)) → 16384 ≤ length (room .now) → (x : Decoded) (left : List ℕ) → DecodeAnswers words room x left →
-    (modes states count : ℕ) (t : Accepted (words .now) modes states count) → left ≡ roomFor (words .now) (length (room .now)) (sectionsOf (t .table))
+    (modes states count : ℕ) (t : Accepted (words .now) modes states count) → left ≡ roomFor (words .now) (length (room .now)) (Found (sectionsOf (t .table)))
 accepted-room words room enough x left a modes states count t = sym (a .3) ∙ a .2 .1 ∙ keeps-accepted (words .now) (length (room .now)) enough t
 
 -- the same over the table's own words
 pub table-room : (words room : RefT (List ℕ)) → 16384 ≤ length (room .now) → (x : Decoded) (left : List ℕ) → DecodeAnswers words room x left →
-    (modes states count : ℕ) (t : Accepted (words .now) modes states count) → roomFor (wordsOf (t .table)) (length (room .now)) (sectionsOf (t .table)) ≡ left
+    (modes states count : ℕ) (t : Accepted (words .now) modes states count) → roomFor (wordsOf (t .table)) (length (room .now)) (Found (sectionsOf (t .table))) ≡ left
 table-room words room enough x left a modes states count t =
-    sym (accepted-room words room enough x left a modes states count t ∙ ap (λ v. roomFor v (length (room .now)) (sectionsOf (t .table))) (t .layout))
+    sym (accepted-room words room enough x left a modes states count t ∙ ap (λ v. roomFor v (length (room .now)) (Found (sectionsOf (t .table)))) (t .layout))

@@ -14,7 +14,7 @@ use Rattle.ascii_run.specs.Scan.{stops, scanSaid}
 use Rattle.ascii_run.specs.Words.{orField, shortRun, readAt}
 use Rattle.words.specs.Parse.{andThen, word, fields, block, many, section, both}
 use Rattle.words.specs.Records.{any, target, start}
-use Rattle.layout.specs.Layout.{onward, layoutOf}
+use Rattle.layout.specs.Layout.{placeOf, closed, layoutOf}
 use Rattle.rules.specs.Rules.{everyFrom, walk, every, everyIn, good, noneOr, present, stateGood, targets, classifiedWords, stands, runGood, bothGood, wideGood, escapeGood, firstBroken}
 use Rattle.written.specs.Over.{padded}
 use Rattle.limits.specs.Limits.{laidOut}
@@ -40,7 +40,7 @@ use Rattle.rows.specs.Answer.{withRows, asciiIn, wideIn}
 use Rattle.lexer_dfa.specs.Sheet.{_says_, transitions, Right, rowOn, sheet}
 
 pub sheet-right : Right sheet
-unfolding rowOn upFrom some before joined rangesFrom upToFour inRanges held exitsFrom byRanges byExits classified stops scanSaid lists.every orField shortRun readAt fields any target start block word andThen many section both onward layoutOf laidOut decodedFrom judged everyFrom walk every everyIn good noneOr present stateGood targets classifiedWords stands runGood bothGood wideGood escapeGood firstBroken padded anyHas holds holdAt orderly inOrder clip clips gaps intervals allIntervals sizeAt numberAt pairsAt shapeOf transOf bodyAt recordAt more of-list.onward parseFrom insert cutSpans cutAll cutsOf cuts.starts startsFrom cuts.segments segmentsFrom of-segments.counted parseFor segmentsIn wordOf pack maskOf masksAt flat isZero sameList firstEqual addNew distinct of-masks.counted parseMasks parseDistinct masksIn each goalAt rowFrom rowOver joinTo join partFrom values given rowOf of-rows.counted withRows asciiIn wideIn
+unfolding rowOn upFrom some before joined rangesFrom upToFour inRanges held exitsFrom byRanges byExits classified stops scanSaid lists.every orField shortRun readAt fields any target start block word andThen many section both placeOf closed layoutOf laidOut decodedFrom judged everyFrom walk every everyIn good noneOr present stateGood targets classifiedWords stands runGood bothGood wideGood escapeGood firstBroken padded anyHas holds holdAt orderly inOrder clip clips gaps intervals allIntervals sizeAt numberAt pairsAt shapeOf transOf bodyAt recordAt more of-list.onward parseFrom insert cutSpans cutAll cutsOf cuts.starts startsFrom cuts.segments segmentsFrom of-segments.counted parseFor segmentsIn wordOf pack maskOf masksAt flat isZero sameList firstEqual addNew distinct of-masks.counted parseMasks parseDistinct masksIn each goalAt rowFrom rowOver joinTo join partFrom values given rowOf of-rows.counted withRows asciiIn wideIn
 sheet-right = (refl, (refl, (refl, (refl, (refl, (refl, (refl, (refl, (refl, (refl, (refl, (refl, (refl, (refl, (refl, (refl, (refl, tt)))))))))))))))))
 
 -- "256 transitions pass; 257: 4": so many wildcards

@@ -10,8 +10,9 @@ use lib.Dec.{ltb}
 use lib.ListN.{length}
 use Rattle.refusal.specs.Said.{LIMIT, ROOM}
 use Rattle.refusal.specs.Lists.{pick}
-use Rattle.layout.specs.declared.Sections.{Sections}
-use Rattle.layout.specs.declared.Sections.the-variants.{Found}
+use Rattle.words.specs.declared.Sections.{Sections}
+use Rattle.layout.specs.declared.Layout.{Layout}
+use Rattle.layout.specs.declared.Layout.the-variants.{Found}
 use Rattle.layout.specs.Layout.{unfound, layoutOf}
 use Rattle.limits.specs.Limits.{laidOut}
 
@@ -24,7 +25,7 @@ module _ (w : List ℕ) (n : ℕ) where
   unfolding laidOut
   past-limit h k = rw (le-ltb n 16384 h, lt-ltb 8192 (length w) k)
 
-  pub is-laid : {got : Sections} → 16384 ≤ n → length w ≤ 8192 → got ≡ layoutOf w → got ≡ laidOut w n
+  pub is-laid : {got : Layout} → 16384 ≤ n → length w ≤ 8192 → got ≡ layoutOf w → got ≡ laidOut w n
   unfolding laidOut
   is-laid h k g = g ∙ (rw (le-ltb n 16384 h, le-ltb 8192 (length w) k))
 
@@ -33,16 +34,16 @@ pub ruleset limiting = (needs, no-room, past-limit, is-laid)
 
 -- Sections that were found, within the limits
 
-pub record Kept (w : List ℕ) (n m s r a v x e c : ℕ) : Type 0 where
+pub record Kept (w : List ℕ) (n : ℕ) (s : Sections) : Type 0 where
   pub room : 16384 ≤ n
   pub limit : length w ≤ 8192
-  pub laid : layoutOf w ≡ Found m s r a v x e c
+  pub laid : layoutOf w ≡ Found s
 
-pub kept : (w : List ℕ) (n : ℕ) {m s r a v x e c : ℕ} → laidOut w n ≡ Found m s r a v x e c → Kept w n m s r a v x e c
+pub kept : (w : List ℕ) (n : ℕ) {s : Sections} → laidOut w n ≡ Found s → Kept w n s
 unfolding laidOut
-kept w n {m} {s} {r} {a} {v} {x} {e} {c} h = go (ltb n 16384) (ltb 8192 (length w)) refl refl h
+kept w n {s} h = go (ltb n 16384) (ltb 8192 (length w)) refl refl h
   where
-    go : (p q : Bool) → ltb n 16384 ≡ p → ltb 8192 (length w) ≡ q → pick p (unfound ROOM 0) (pick q (unfound LIMIT 8192) (layoutOf w)) ≡ Found m s r a v x e c → Kept w n m s r a v x e c
+    go : (p q : Bool) → ltb n 16384 ≡ p → ltb 8192 (length w) ≡ q → pick p (unfound ROOM 0) (pick q (unfound LIMIT 8192) (layoutOf w)) ≡ Found s → Kept w n s
     go true q i j k = let z : _≡_ {A = ℕ} 0 1 = cc in absurd (omega arith)
     go false true i j k = let z : _≡_ {A = ℕ} 0 1 = cc in absurd (omega arith)
     go false false i j k = record { room = ltb-false n 16384 i; limit = ltb-false 8192 (length w) j; laid = k }

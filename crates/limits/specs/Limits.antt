@@ -5,9 +5,9 @@ use lib.ListN.{length}
 use lib.Dec.{ltb}
 use Rattle.refusal.specs.Said.{LIMIT, ROOM}
 use Rattle.refusal.specs.Lists.{pick}
-use Rattle.layout.specs.declared.Sections.{Sections}
+use Rattle.layout.specs.declared.Layout.{Layout}
 use Rattle.layout.specs.Layout.{unfound, layoutOf}
 
 -- "Decoding: ROOM (table room under 16,384 numbers), LIMIT, then words in order, LEFT"
-unfoldable pub laidOut : List ℕ → ℕ → Sections
+unfoldable pub laidOut : List ℕ → ℕ → Layout
 laidOut w n = pick (ltb n 16384) (unfound ROOM 0) (pick (ltb 8192 (length w)) (unfound LIMIT 8192) (layoutOf w))

@@ -6,7 +6,8 @@ use mathlib.Core.List.{List, [], _++_, append-assoc}
 use lib.ListN.{length, getD, take, length-append}
 use lib.Seq.{length-take-le}
 use Rattle.written.specs.Over.{zeros, padded}
-use Rattle.room.specs.Room.{copied, acceptMade, continuationMade, laterMade, made, header, laterPlaces, places, body, numbers, roomFor}
+use Rattle.layout.specs.declared.Layout.the-variants.{Found}
+use Rattle.room.specs.Room.{copied, acceptMade, continuationMade, made, header, places, numbers, roomFor}
 use Rattle.table.specs.Table.{Table, Fields, counted, wordsOf, modeWords, stateWords, runWords, asciiWords, wideWords, acceptWords, escapeWords, continuationWords}
 use Rattle.table.specs.Places.{statesPlace, runsPlace, asciiPlace, widePlace, acceptsPlace, escapesPlace, continuationsPlace, sectionsOf}
 use Rattle.table.proofs.Codec.{At, same, on, to, at-length}
@@ -75,8 +76,8 @@ module _ (t : Table) (h : Fields t) (limit : length (wordsOf t) ≤ 8192) (n : �
   S = placesOf continuationWords (t .continuations) (continuationsPlace t)
 
   -- the words, with flags made 0 or 1
-  made-is : made words x (escapesPlace t) (continuationsPlace t) ≡ take x words ++ (A ++ (E ++ C))
-  unfolding made laterMade copied
+  made-is : made words (sectionsOf t) ≡ take x words ++ (A ++ (E ++ C))
+  unfolding copied
   made-is =
       let l : length E ≡ continuationsPlace t - escapesPlace t = omega arith in
       rw (
@@ -86,8 +87,7 @@ module _ (t : Table) (h : Fields t) (limit : length (wordsOf t) ≤ 8192) (n : �
       )
 
   -- the lists of places
-  places-are : places words (runsPlace t) (widePlace t) x (escapesPlace t) (continuationsPlace t) ≡ R ++ (W ++ (P ++ (Q ++ S)))
-  unfolding places laterPlaces
+  places-are : places words (sectionsOf t) ≡ R ++ (W ++ (P ++ (Q ++ S)))
   places-are = rw (
     placed-is run-codec (t .runs) words (runsPlace t) (fromAscii t) (h .runs) (runs-stand t),
     placed-is of.wide-row (t .wide) words (widePlace t) (fromAccepts t) (h .wide) (wide-stand t),
@@ -99,10 +99,10 @@ module _ (t : Table) (h : Fields t) (limit : length (wordsOf t) ≤ 8192) (n : �
   -- the room
 
   abbrev w : List ℕ
-  w = roomFor words n (sectionsOf t)
+  w = roomFor words n (Found (sectionsOf t))
 
   abbrev Z : List ℕ
-  Z = zeros (n - length (numbers words 1 (statesPlace t) (runsPlace t) (asciiPlace t) (widePlace t) x (escapesPlace t) (continuationsPlace t)))
+  Z = zeros (n - length (numbers words (sectionsOf t)))
 
   abbrev fromQ : List ℕ
   fromQ = Q ++ (S ++ Z)
@@ -120,22 +120,22 @@ module _ (t : Table) (h : Fields t) (limit : length (wordsOf t) ≤ 8192) (n : �
   fromA = A ++ (E ++ (C ++ fromR))
 
   -- words and lists stand behind the header
-  behind-header : At w 9 ((made words x (escapesPlace t) (continuationsPlace t) ++ places words (runsPlace t) (widePlace t) x (escapesPlace t) (continuationsPlace t)) ++ Z)
-  unfolding roomFor sectionsOf padded numbers header body
+  behind-header : At w 9 ((made words (sectionsOf t) ++ places words (sectionsOf t)) ++ Z)
+  unfolding roomFor padded header
   behind-header = record {
-    pre = header words 1 (statesPlace t) (runsPlace t) (asciiPlace t) (widePlace t) x (escapesPlace t) (continuationsPlace t);
+    pre = header words (sectionsOf t);
     whole = refl;
     here = refl;
   }
 
   stands : At w 9 (take x words ++ fromA)
-  stands = same behind-header (ap (λ l. (l ++ places words (runsPlace t) (widePlace t) x (escapesPlace t) (continuationsPlace t)) ++ Z) made-is
+  stands = same behind-header (ap (λ l. (l ++ places words (sectionsOf t)) ++ Z) made-is
       ∙ ap (λ l. ((take x words ++ (A ++ (E ++ C))) ++ l) ++ Z) places-are ∙ flat (take x words) A E C R W P Q S Z)
 
   -- the header's numbers
   heads : (getD w 0 0 ≡ length words) × (getD w 1 0 ≡ 1 + 9) × (getD w 2 0 ≡ statesPlace t + 9) × (getD w 3 0 ≡ runsPlace t + 9) × (getD w 4 0 ≡ asciiPlace t + 9)
       × (getD w 5 0 ≡ widePlace t + 9) × (getD w 6 0 ≡ acceptsPlace t + 9) × (getD w 7 0 ≡ escapesPlace t + 9) × (getD w 8 0 ≡ continuationsPlace t + 9)
-  unfolding roomFor sectionsOf padded numbers header
+  unfolding roomFor padded header
   heads = (refl, refl, refl, refl, refl, refl, refl, refl, refl)
 
   -- where each part stands

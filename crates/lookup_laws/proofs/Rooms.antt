@@ -2,6 +2,7 @@
 use Prim.Native.Nat.{ℕ, _≤_}
 use mathlib.Core.List.{List}
 use lib.ListN.{length}
+use Rattle.layout.specs.declared.Layout.the-variants.{Found}
 use Rattle.room.specs.Room.{roomFor}
 use Rattle.table.specs.Table.{Table, wordsOf, Fields}
 use Rattle.table.specs.Rules.{Rules}
@@ -40,8 +41,8 @@ holds-looks t h r w k = record {
 }
 
 -- the room that decoding leaves for a table that it accepts
-pub room-looks : (t : Table) → Fields t → Rules t → length (wordsOf t) ≤ 8192 → (n : ℕ) → Looks t (roomFor (wordsOf t) n (sectionsOf t))
-room-looks t h r l n = holds-looks t h r (roomFor (wordsOf t) n (sectionsOf t)) (held t h l n)
+pub room-looks : (t : Table) → Fields t → Rules t → length (wordsOf t) ≤ 8192 → (n : ℕ) → Looks t (roomFor (wordsOf t) n (Found (sectionsOf t)))
+room-looks t h r l n = holds-looks t h r (roomFor (wordsOf t) n (Found (sectionsOf t))) (held t h l n)
 
-pub room-never : (t : Table) → Fields t → Rules t → length (wordsOf t) ≤ 8192 → (n : ℕ) → Never (roomFor (wordsOf t) n (sectionsOf t))
-room-never t h r l n = looks-never t (roomFor (wordsOf t) n (sectionsOf t)) (room-looks t h r l n)
+pub room-never : (t : Table) → Fields t → Rules t → length (wordsOf t) ≤ 8192 → (n : ℕ) → Never (roomFor (wordsOf t) n (Found (sectionsOf t)))
+room-never t h r l n = looks-never t (roomFor (wordsOf t) n (Found (sectionsOf t))) (room-looks t h r l n)

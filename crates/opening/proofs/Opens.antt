@@ -9,8 +9,8 @@ use lib.ListN.{length, getD}
 use borrow.Author.Tests.{eq-eqb, ne-eqb, ltb-true, ltb-false}
 use Rattle.refusal.specs.Said.{Said, ok, no, SHORT}
 use Rattle.refusal.specs.Fixed.{tag}
-use Rattle.words.specs.Parse.{word, section}
-use Rattle.layout.specs.Layout.{said, onward, layoutOf}
+use Rattle.words.specs.Parse.{andThen, word, section}
+use Rattle.layout.specs.Layout.{said, closed, layoutOf}
 use Rattle.opening.specs.Opened.{openingSaid, counted, opened, openingOf}
 
 abbrev pub Agrees : List ℕ → Said → Said → Type 0
@@ -18,7 +18,7 @@ Agrees w (ok l) sections = l ≡ getD w 1 0 ∷ []
 Agrees w (no n p) sections = sections ≡ no n p
 
 pub opening-agrees : (w : List ℕ) → Agrees w (openingSaid (openingOf w)) (said (layoutOf w))
-unfolding opened counted layoutOf onward section word
+unfolding opened counted layoutOf closed andThen section word
 opening-agrees w = go (ltb 0 (length w)) refl (eqb (getD w 0 0) tag) refl (ltb 1 (length w)) refl
   where
     some : ltb 0 (length w) ≡ true → length w ≡ 0 → ⊥

@@ -1,27 +1,27 @@
 -- The laws of writing one record, by the tests and stores that the code makes. Assumes nothing.
 use Prim.Native.Nat.{ℕ, _+_, _*_, _-_, _^_, _<_, _≤_}
 use native.Mathlib.Omega.{arith}
-use mathlib.Core.Path.{_≡_, refl, sym, ap, subst, _∙_}
-use mathlib.Core.List.{List, [], _∷_, _++_, append-nil}
+use mathlib.Core.Path.{_≡_, refl, sym, ap, _∙_}
+use mathlib.Core.List.{List, [], _∷_, _++_}
 use mir.Syntax.{w64}
 use mir.Val.{Fits}
 use borrow.Author.Needs.{needs}
 use borrow.Author.Tests.{eq-eqb, ne-eqb, ltb-true}
 use mathlib.Core.Bool.{true}
 use lib.Dec.{ltb}
-use lib.ListN.{length, getD, set, length-set, length-append}
+use lib.ListN.{length, getD, set}
 use Rattle.words.specs.declared.Place.{Place}
 use Rattle.words.specs.declared.Place.the-variants.{Next}
 use Rattle.words.specs.Records.{configAt, continuationAt}
 use Rattle.words.proofs.Bounds.{accept-sized, config-sized, configs-behind, section-in}
 use Rattle.written.specs.Over.{Put}
 use Rattle.written.proofs.Overs.{lay-none}
-use Rattle.written.proofs.Going.{Going, going-start, going-turn, going-done, put-one}
+use Rattle.written.proofs.Going.{put-one}
 use Rattle.room.specs.Room.{each, copied, flag, renewed, acceptMade, configMade, continuationMade, shifted}
 use Rattle.room.specs.declared.Flagged.{Flagged}
 use Rattle.room.specs.declared.Flagged.the-variants.{Accept, Config}
 use Rattle.room.specs.Flagged.{leads, flags, flaggedAt, flaggedMade}
-use Rattle.room.proofs.Parts.{three-0, three-1, three-2, three-put}
+use Rattle.room.proofs.Parts.{first-room, middle-room, three-room, three-put, two-room, two-put}
 use Rattle.room.proofs.Writing.{copied-open, copied-done}
 
 -- A place inside a list is a number of the machine
@@ -86,38 +86,45 @@ module _ (w : List ℕ) (at : ℕ) {behind : ℕ} where
       let k : at + 2 + 1 ≡ at + 3 = omega arith in
       rw (copied-two w at (omega arith), copied-two w (at + 2) (omega arith), j, k, i)
 
-  module _ (kind : Flagged) {k : ℕ} where
-    made-in : k ≡ leads kind → flaggedAt kind w at ≡ Next behind → flaggedMade kind w at ≡ copied w at k ++ (flags w (at + k) k ++ copied w (at + k + k) (behind - (at + k + k)))
-    made-in i e = rw i (made-of kind e)
+  module _ (kind : Flagged) {k : ℕ} (i : k ≡ leads kind) (e : flaggedAt kind w at ≡ Next behind) where
+    abbrev front : List ℕ
+    front = copied w at k
 
-    pub flags-behind : k ≡ leads kind → flaggedAt kind w at ≡ Next behind → at + k + k ≤ behind
-    flags-behind i e = let r = sized kind e in omega (arith, r .0)
+    abbrev middle : List ℕ
+    middle = flags w (at + k) k
 
-    pub leads-within : k ≡ leads kind → flaggedAt kind w at ≡ Next behind → at + k ≤ length w
-    leads-within i e = let r = sized kind e in omega (arith, r .0, r .1)
+    abbrev rest : List ℕ
+    rest = copied w (at + k + k) (behind - (at + k + k))
 
-    pub flags-within : k ≡ leads kind → flaggedAt kind w at ≡ Next behind → at + k + k ≤ length w
-    flags-within i e = let r = sized kind e in omega (arith, r .0, r .1)
+    made-in : flaggedMade kind w at ≡ front ++ (middle ++ rest)
+    made-in = rw i (made-of kind e)
 
-    pub rest-within : k ≡ leads kind → flaggedAt kind w at ≡ Next behind → at + k + k + (behind - (at + k + k)) ≤ length w
-    rest-within i e = let r = sized kind e in omega (arith, r .0, r .1)
+    pub flags-behind : at + k + k ≤ behind
+    flags-behind = let r = sized kind e in omega (arith, r .0)
 
-    module _ (n : ℕ) (d : List ℕ) where
-      pub flagged-room-0 : k ≡ leads kind → flaggedAt kind w at ≡ Next behind → n + length (flaggedMade kind w at) ≤ length d → n + length (copied w at k) ≤ length d
-      flagged-room-0 i e h = three-0 (copied w at k) (flags w (at + k) k) (copied w (at + k + k) (behind - (at + k + k))) n d (rw (made-in i e) at h)
+    pub leads-within : at + k ≤ length w
+    leads-within = let r = sized kind e in omega (arith, r .0, r .1)
 
-      module _ {n₁ : ℕ} {d₁ : List ℕ} where
-        pub flagged-room-1 : k ≡ leads kind → flaggedAt kind w at ≡ Next behind → n + length (flaggedMade kind w at) ≤ length d → Put (copied w at k) n d n₁ d₁ → n₁ + length (flags w (at + k) k) ≤ length d₁
-        flagged-room-1 i e h p = three-1 (copied w at k) (flags w (at + k) k) (copied w (at + k + k) (behind - (at + k + k))) n d (rw (made-in i e) at h) p
+    pub flags-within : at + k + k ≤ length w
+    flags-within = let r = sized kind e in omega (arith, r .0, r .1)
 
-        module _ {n₂ : ℕ} {d₂ : List ℕ} where
-          pub flagged-room-2 : k ≡ leads kind → flaggedAt kind w at ≡ Next behind → n + length (flaggedMade kind w at) ≤ length d → Put (copied w at k) n d n₁ d₁ → Put (flags w (at + k) k) n₁ d₁ n₂ d₂
-              → n₂ + length (copied w (at + k + k) (behind - (at + k + k))) ≤ length d₂
-          flagged-room-2 i e h p q = three-2 (copied w at k) (flags w (at + k) k) (copied w (at + k + k) (behind - (at + k + k))) n d (rw (made-in i e) at h) p q
+    pub rest-within : at + k + k + (behind - (at + k + k)) ≤ length w
+    rest-within = let r = sized kind e in omega (arith, r .0, r .1)
 
-          pub flagged-put : {n₃ : ℕ} {d₃ : List ℕ} → k ≡ leads kind → flaggedAt kind w at ≡ Next behind → n + length (flaggedMade kind w at) ≤ length d → Put (copied w at k) n d n₁ d₁
-              → Put (flags w (at + k) k) n₁ d₁ n₂ d₂ → Put (copied w (at + k + k) (behind - (at + k + k))) n₂ d₂ n₃ d₃ → Put (flaggedMade kind w at) n d n₃ d₃
-          flagged-put i e h p q t = rw (made-in i e) (three-put (copied w at k) (flags w (at + k) k) (copied w (at + k + k) (behind - (at + k + k))) n d (rw (made-in i e) at h) p q t)
+    module _ (n : ℕ) (d : List ℕ) (h : n + length (flaggedMade kind w at) ≤ length d) where
+      pub flagged-room-0 : n + length front ≤ length d
+      flagged-room-0 = first-room front (middle ++ rest) n d (rw made-in at h)
+
+      module _ {n₁ : ℕ} {d₁ : List ℕ} (p : Put front n d n₁ d₁) where
+        pub flagged-room-1 : n₁ + length middle ≤ length d₁
+        flagged-room-1 = middle-room front middle rest n d p (rw made-in at h)
+
+        module _ {n₂ : ℕ} {d₂ : List ℕ} (q : Put middle n₁ d₁ n₂ d₂) where
+          pub flagged-room-2 : n₂ + length rest ≤ length d₂
+          flagged-room-2 = three-room front middle rest n d q p (rw made-in at h)
+
+          pub flagged-put : {n₃ : ℕ} {d₃ : List ℕ} → Put rest n₂ d₂ n₃ d₃ → Put (flaggedMade kind w at) n d n₃ d₃
+          flagged-put t = rw made-in (three-put front middle rest n d t q p (rw made-in at h))
 
 -- a place in the words is a number of the machine
 pub up-to-fits : (i n : ℕ) → i ≤ n → n * 4 < 2 ^ 63 → Fits w64 i
@@ -142,19 +149,16 @@ module _ (w : List ℕ) (at k : ℕ) where
     unfolding continuationMade
     parts = rw i
 
-    pub continuation-first : n + length (continuationMade w at) ≤ length d → n + length (copied w at k) ≤ length d
-    continuation-first h = let l = ap length parts in omega (arith, length-append (copied w at k) configs)
+    module _ (h : n + length (continuationMade w at) ≤ length d) where
+      pub continuation-first : n + length (copied w at k) ≤ length d
+      continuation-first = first-room (copied w at k) configs n d (rw parts at h)
 
-    going : {r : ℕ} {new : List ℕ} → n + length (continuationMade w at) ≤ length d → Put (copied w at k) n d r new → Going (continuationMade w at) n d configs r new
-    going h p = going-turn (continuationMade w at) n d configs n d (copied w at k) p (subst (λ l. Going (continuationMade w at) n d l n d) parts (going-start (continuationMade w at) n d h))
+      module _ {r : ℕ} {new : List ℕ} (p : Put (copied w at k) n d r new) where
+        pub continuation-second : r + length configs ≤ length new
+        continuation-second = two-room (copied w at k) configs n d p (rw parts at h)
 
-    pub continuation-second : {r : ℕ} {new : List ℕ} → n + length (continuationMade w at) ≤ length d → Put (copied w at k) n d r new → r + length configs ≤ length new
-    continuation-second h p = let g = going h p in omega (arith, g .next, g .size, g .room)
-
-    pub continuation-put : {r q : ℕ} {new final : List ℕ} → n + length (continuationMade w at) ≤ length d → Put (copied w at k) n d r new → Put configs r new q final
-        → Put (continuationMade w at) n d q final
-    continuation-put {r} {new = new} h p t =
-        going-done (continuationMade w at) n d (going-turn (continuationMade w at) n d [] r new configs t (subst (λ l. Going (continuationMade w at) n d l r new) (sym (append-nil configs)) (going h p)))
+        pub continuation-put : {q : ℕ} {final : List ℕ} → Put configs r new q final → Put (continuationMade w at) n d q final
+        continuation-put t = rw parts (two-put (copied w at k) configs n d t p (rw parts at h))
 
 pub continuation-count : (w : List ℕ) (at : ℕ) {behind : ℕ} → continuationAt w at ≡ Next behind → at < length w
 continuation-count w at e = omega (arith, continuation-configs w at (getD w at 0 * 3 + 1) refl e)

@@ -1,18 +1,17 @@
 -- The room of a table: a header of nine numbers, the words with flags made 0 or 1, and where each record of variable length starts.
--- Below, w are the words, and m s r a v x e c the places of the counts of modes, states, runs, ascii rows, wide rows, accepts, escape
--- rows and continuations. Assumes nothing.
+-- Below, w are the words, and s the places of the counts of their sections. Assumes nothing.
 use Prim.Native.Nat.{ℕ, zero, suc, _+_, _*_, _-_}
 use mathlib.Core.List.{List, [], _∷_, _++_}
 use lib.ListN.{length, getD, take, drop}
-use lib.Dec.{eqb, ltb}
-use Rattle.refusal.specs.Said.{LIMIT, ROOM}
+use lib.Dec.{eqb}
 use Rattle.refusal.specs.Lists.{pick}
+use Rattle.refusal.specs.Header.{headerNumbers}
 use Rattle.words.specs.declared.Place.{Place}
 use Rattle.words.specs.declared.Place.the-variants.{Next, Refused}
 use Rattle.words.specs.Records.{runAt, wideAt, acceptAt, escapeAt, configAt, continuationAt}
-use Rattle.layout.specs.declared.Sections.{Sections}
-use Rattle.layout.specs.declared.Sections.the-variants.{Found, Unfound}
-use Rattle.layout.specs.Layout.{unfound, layoutOf}
+use Rattle.words.specs.declared.Sections.{Sections}
+use Rattle.layout.specs.declared.Layout.{Layout}
+use Rattle.layout.specs.declared.Layout.the-variants.{Found, Unfound}
 use Rattle.written.specs.Over.{zeros, padded}
 
 -- Records, one behind the other
@@ -59,47 +58,43 @@ unfoldable pub continuationMade : List ℕ → ℕ → List ℕ
 continuationMade w s = copied w s (getD w s 0 * 3 + 1) ++ renewed configAt configMade w (s + (getD w s 0 * 3 + 1))
 
 -- all sections: only accepts and continuations have flags
-unfoldable pub laterMade : List ℕ → ℕ → ℕ → List ℕ
-laterMade w e c = copied w e (c - e) ++ renewed continuationAt continuationMade w c
+abbrev pub laterMade : List ℕ → Sections → List ℕ
+laterMade w s = copied w (s .escapes) (s .continuations - s .escapes) ++ renewed continuationAt continuationMade w (s .continuations)
 
-unfoldable pub made : List ℕ → ℕ → ℕ → ℕ → List ℕ
-made w x e c = copied w 0 x ++ (renewed acceptAt acceptMade w x ++ laterMade w e c)
+abbrev pub made : List ℕ → Sections → List ℕ
+made w s = copied w 0 (s .accepts) ++ (renewed acceptAt acceptMade w (s .accepts) ++ laterMade w s)
 
 -- Places in the room: the words stand behind the header
 
 abbrev pub shifted : ℕ → List ℕ
-shifted p = (p + 9) ∷ []
+shifted p = (p + headerNumbers) ∷ []
 
 -- where the records of a section start
 unfoldable pub placed : (List ℕ → ℕ → Place) → List ℕ → ℕ → List ℕ
 placed read w at = each shifted (starts (read w) (getD w at 0) (at + 1))
 
 abbrev pub four : ℕ → ℕ → ℕ → ℕ → List ℕ
-four a b c d = (a + 9) ∷ (b + 9) ∷ (c + 9) ∷ (d + 9) ∷ []
+four a b c d = (a + headerNumbers) ∷ (b + headerNumbers) ∷ (c + headerNumbers) ∷ (d + headerNumbers) ∷ []
 
 -- the word count, and where the sections' counts stand
-unfoldable pub header : List ℕ → ℕ → ℕ → ℕ → ℕ → ℕ → ℕ → ℕ → ℕ → List ℕ
-header w m s r a v x e c = length w ∷ (four m s r a ++ four v x e c)
+unfoldable pub header : List ℕ → Sections → List ℕ
+header w s = length w ∷ (four (s .modes) (s .states) (s .runs) (s .ascii) ++ four (s .wide) (s .accepts) (s .escapes) (s .continuations))
 
 -- where the accepts, the escape rows and the continuations start
-unfoldable pub laterPlaces : List ℕ → ℕ → ℕ → ℕ → List ℕ
-laterPlaces w x e c = placed acceptAt w x ++ (placed escapeAt w e ++ placed continuationAt w c)
+abbrev pub laterPlaces : List ℕ → Sections → List ℕ
+laterPlaces w s = placed acceptAt w (s .accepts) ++ (placed escapeAt w (s .escapes) ++ placed continuationAt w (s .continuations))
 
 -- and before them the runs and the wide rows
-unfoldable pub places : List ℕ → ℕ → ℕ → ℕ → ℕ → ℕ → List ℕ
-places w r v x e c = placed runAt w r ++ (placed wideAt w v ++ laterPlaces w x e c)
-
--- the words, and the places behind them
-unfoldable pub body : List ℕ → ℕ → ℕ → ℕ → ℕ → ℕ → List ℕ
-body w r v x e c = made w x e c ++ places w r v x e c
+abbrev pub places : List ℕ → Sections → List ℕ
+places w s = placed runAt w (s .runs) ++ (placed wideAt w (s .wide) ++ laterPlaces w s)
 
 -- all numbers of a table
-unfoldable pub numbers : List ℕ → ℕ → ℕ → ℕ → ℕ → ℕ → ℕ → ℕ → ℕ → List ℕ
-numbers w m s r a v x e c = header w m s r a v x e c ++ body w r v x e c
+abbrev pub numbers : List ℕ → Sections → List ℕ
+numbers w s = header w s ++ (made w s ++ places w s)
 
 -- What filling leaves in a room of n numbers, by what was found
 
 -- "Refused: all outputs zero. Accepted: outputs past the answer's length zero."
-unfoldable pub roomFor : List ℕ → ℕ → Sections → List ℕ
-roomFor w n (Found m s r a v x e c) = padded n (numbers w m s r a v x e c)
+unfoldable pub roomFor : List ℕ → ℕ → Layout → List ℕ
+roomFor w n (Found s) = padded n (numbers w s)
 roomFor w n (Unfound r) = zeros n

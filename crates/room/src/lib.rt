@@ -4,7 +4,7 @@ ghost use mathlib.Core.Path.{_≡_};
 ghost use lib.ListN.{length};
 ghost use Rattle.limits.specs.Limits.{laidOut};
 ghost use Rattle.room.specs.Room.{roomFor};
-use layout::Sections;
+use layout::Layout;
 
 mod places;
 mod renew;
@@ -18,44 +18,15 @@ enum Flagged {
 
 // Fills the room with the numbers of the table whose words these are, and answers where its sections start. Where there is no table,
 // by its layout, the room is all zeros. The index rules are not judged here.
-pub fn fill(words: &[u32], room: &mut [u32]) -> Sections
+pub fn fill(words: &[u32], room: &mut [u32]) -> Layout
     ensures { λ r. ⌜ (r ≡ laidOut (now (words .entry)) (length (now (room .entry)))) × (now (room .exit) ≡ roomFor (now (words .entry)) (length (now (room .entry))) r) ⌝ }
 {
     written::clear(room);
     match limits::find_within_limits(words, room.len()) {
-        Sections::Found {
-            modes,
-            states,
-            runs,
-            ascii_rows,
-            wide_rows,
-            accepts,
-            escape_rows,
-            continuations,
-        } => {
-            table::put_table(
-                words,
-                modes,
-                states,
-                runs,
-                ascii_rows,
-                wide_rows,
-                accepts,
-                escape_rows,
-                continuations,
-                room,
-            );
-            Sections::Found {
-                modes,
-                states,
-                runs,
-                ascii_rows,
-                wide_rows,
-                accepts,
-                escape_rows,
-                continuations,
-            }
+        Layout::Found(sections) => {
+            table::put_table(words, sections, room);
+            Layout::Found(sections)
         }
-        Sections::Unfound(r) => Sections::Unfound(r),
+        Layout::Unfound(r) => Layout::Unfound(r),
     }
 }

@@ -6,6 +6,7 @@ ghost use Rattle.records.specs.Kinds.{recordAt};
 ghost use Rattle.written.specs.Over.{Put};
 ghost use Rattle.room.specs.Room.{shifted, placed};
 use records::Kind;
+use refusal::HEADER_NUMBERS;
 use words::Place;
 
 // The place in the room of the record at `at`.
@@ -14,7 +15,7 @@ fn put_place(at: usize, room: &mut [u32], n: usize) -> usize
     requires fits { ⌜ n + length (shifted at) ≤ length (now room) ⌝ }
     ensures { λ r. ⌜ Put (shifted at) n (now (room .entry)) r (now (room .exit)) ⌝ }
 {
-    room[n] = (at + 9) as u32;
+    room[n] = (at + HEADER_NUMBERS) as u32;
     n + 1
 }
 

@@ -11,13 +11,12 @@ use lib.Seq.{take-at}
 use Rattle.refusal.specs.Fixed.{tag}
 use Rattle.refusal.specs.Lists.{pick}
 use Rattle.words.specs.declared.Place.{Place}
-use Rattle.layout.specs.declared.Sections.{Sections}
-use Rattle.layout.specs.declared.Sections.the-variants.{Found, Unfound}
+use Rattle.layout.specs.declared.Layout.the-variants.{Found}
 use Rattle.layout.specs.Layout.{layoutOf}
 use Rattle.room.specs.Room as room
-use Rattle.room.specs.Room.{startsFrom, starts, copied, flag, renewed, acceptMade, configMade, continuationMade, laterMade, made, shifted, placed, four, header, laterPlaces, places, body, numbers}
+use Rattle.room.specs.Room.{startsFrom, starts, copied, flag, renewed, acceptMade, configMade, continuationMade, made, shifted, placed, four, header, numbers}
 use Rattle.table.specs.Table.{Table, Action, Accept, Context, Config, Continuation, Fields, ContinuationFields, All, each, counted, sectionWords, wordsOf, modeWords, stateWords, runWords, asciiWords, wideWords, actionWords, acceptWords, escapeWords, contextWords, configWords, continuationWords}
-use Rattle.table.specs.Places.{behind, statesPlace, runsPlace, asciiPlace, widePlace, acceptsPlace, escapesPlace, continuationsPlace, sectionsOf}
+use Rattle.table.specs.Places.{sectionEnd, statesPlace, runsPlace, asciiPlace, widePlace, acceptsPlace, escapesPlace, continuationsPlace, sectionsOf}
 use Rattle.table.proofs.Codec.{At, Codec, start, same, on, to, at-length, at-head, at-drop}
 use Rattle.table.proofs.Runs.{run-codec}
 use Rattle.table.proofs.Records.{wide-row, accept, escape, config, continuation, all-always}
@@ -47,7 +46,7 @@ continuation-size x =
     omega (arith, length-append a (counted configWords (map normalConfig (x .configs))), length-append a (counted configWords (x .configs)), counted-size configWords normalConfig config-size (x .configs))
 
 pub normal-sections : (t : Table) → sectionsOf (normal t) ≡ sectionsOf t
-unfolding sectionsOf normal
+unfolding normal
 normal-sections t = rw (counted-size acceptWords normalAccept accept-size (t .accepts))
 
 all-map : {A : Type 0} (P : A → Type 0) (g : A → A) → ((x : A) → P x → P (g x)) → (xs : List A) → All P xs → All P (map g xs)
@@ -61,7 +60,7 @@ normal-fields t h = record { modes = h .modes; states = h .states; runs = h .run
 
 -- the normal form is read as the table was, section by section
 pub normal-layout : (t : Table) → Fields t → layoutOf (wordsOf (normal t)) ≡ layoutOf (wordsOf t)
-normal-layout t h = layout-is (normal t) (normal-fields t h) ∙ normal-sections t ∙ sym (layout-is t h)
+normal-layout t h = layout-is (normal t) (normal-fields t h) ∙ ap Found (normal-sections t) ∙ sym (layout-is t h)
 
 -- Twice is once
 
@@ -204,8 +203,8 @@ front-size : (t : Table) → length (front t) ≡ acceptsPlace t
 front-size t = simp length-append (omega arith)
 
 -- the words written for a table are its normal form's
-pub made-is : (t : Table) → Fields t → made (wordsOf t) (acceptsPlace t) (escapesPlace t) (continuationsPlace t) ≡ wordsOf (normal t)
-unfolding made laterMade normal
+pub made-is : (t : Table) → Fields t → made (wordsOf t) (sectionsOf t) ≡ wordsOf (normal t)
+unfolding normal
 made-is t h =
     let w = wordsOf t in
     let f : copied w 0 (acceptsPlace t) ≡ front t = copied-is (front t) (fromAccepts t) (acceptsPlace t) (same (start w) (sym (front-words t))) (front-size t) in
@@ -236,12 +235,8 @@ numbersOf t =
     ++ (offsets escapeWords (t .escapes) (escapesPlace t + 1) ++ offsets continuationWords (t .continuations) (continuationsPlace t + 1))))))
 
 -- by the places of the sections
-abbrev pub numbersIn : List ℕ → Sections → List ℕ
-numbersIn w (Found m s r a v x e c) = numbers w m s r a v x e c
-numbersIn w (Unfound r) = []
-
-pub numbers-are : (t : Table) → Fields t → numbersIn (wordsOf t) (sectionsOf t) ≡ numbersOf t
-unfolding numbers header body places laterPlaces sectionsOf numbersOf
+pub numbers-are : (t : Table) → Fields t → numbers (wordsOf t) (sectionsOf t) ≡ numbersOf t
+unfolding header numbersOf
 numbers-are t h =
     let w = wordsOf t in
     rw (
@@ -253,7 +248,7 @@ numbers-are t h =
       section-starts continuation (t .continuations) w (continuationsPlace t) [] (h .continuations) (continuations-stand t),
     )
 
-words-size : (t : Table) → length (wordsOf t) ≡ behind (continuationsPlace t) continuationWords (t .continuations)
+words-size : (t : Table) → length (wordsOf t) ≡ sectionEnd (continuationsPlace t) continuationWords (t .continuations)
 words-size t = omega (arith, at-length (continuations-stand t), length-append (counted continuationWords (t .continuations)) [])
 
 pub normal-size : (t : Table) → length (wordsOf (normal t)) ≡ length (wordsOf t)

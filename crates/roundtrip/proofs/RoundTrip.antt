@@ -11,7 +11,6 @@ use borrow.Author.Tests.{le-ltb, eq-eqb}
 use Rattle.refusal.proofs.Lists.{equal-same}
 use Rattle.written.specs.Over.{zeros, padded}
 use Rattle.room.specs.Room.{roomFor, numbers}
-use Rattle.layout.proofs.Found.{found}
 use Rattle.room.proofs.Sizes.{numbers-length}
 use Rattle.codec.specs.declared.Decoded.the-variants as decoded
 use Rattle.codec.specs.Decode.{judged, decodedFrom, decodeOf, keptFrom, roomOf}
@@ -21,7 +20,7 @@ use Rattle.encode.specs.declared.Encoded.the-variants.{Words}
 use Rattle.encode.specs.Encode.{encodeOf, outOf}
 use Rattle.table.specs.Table.{Table, Fields, All, wordsOf, runWords, wideWords, acceptWords, escapeWords, continuationWords}
 use Rattle.table.specs.Whole.{Fit}
-use Rattle.table.specs.Places.{runsPlace, widePlace, acceptsPlace, escapesPlace, continuationsPlace, sectionsOf, brokenOf}
+use Rattle.table.specs.Places.{runsPlace, widePlace, acceptsPlace, escapesPlace, continuationsPlace, brokenOf}
 use Rattle.table.specs.Rules.{Rules, Good, NoneOr, Searchable, Numbered, RefersBelow}
 use Rattle.table.proofs.Codec.{at-head}
 use Rattle.table.proofs.Placed.{modes-stand, states-stand}
@@ -60,14 +59,14 @@ normal-rules t r =
 
 module _ (t : Table) (h : Fields t) (r : Rules t) (l : length (wordsOf t) ≤ 8192) (n : ℕ) (room : 16384 ≤ n) where
   table-decoded : decodeOf (wordsOf t) n ≡ decoded.Table (length (t .modes)) (length (t .states)) (length (wordsOf t))
-  unfolding decodedFrom judged sectionsOf
+  unfolding decodedFrom judged
   table-decoded =
       let m = at-head (modes-stand t) in
       let s = at-head (states-stand t) in
       rw (laid t h r l n room, eq-eqb (brokenOf t) 0 (obeys-accepted t h l r .1), m, s)
 
   table-room : roomOf (wordsOf t) n ≡ padded n (numbersOf t)
-  unfolding keptFrom roomFor sectionsOf
+  unfolding keptFrom roomFor
   table-room = rw (laid t h r l n room, eq-eqb (brokenOf t) 0 (obeys-accepted t h l r .1)) (ap (padded n) (numbers-are t h))
 
 -- The room of a table's numbers
@@ -102,9 +101,8 @@ module _ (t : Table) (h : Fields t) (r : Rules t) (l : length (wordsOf t) ≤ 81
   room-part = ap wordsPart (table-room t h r l n room) ∙ words-part t n
 
   room-size : length (roomOf (wordsOf t) n) ≡ n
-  unfolding sectionsOf
   room-size =
-      let f = numbers-length (found (wordsOf t) (obeys-accepted t h l r .0)) in
+      let f = numbers-length (wordsOf t) (obeys-accepted t h l r .0) in
       let k = ap length (numbers-are t h) in
       ap length (table-room t h r l n room) ∙ padded-length n (numbersOf t) (omega (arith, f, k))
 

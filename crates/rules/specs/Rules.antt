@@ -12,6 +12,7 @@ use Rattle.ascii_run.specs.declared.RunWords.{RunWords}
 use Rattle.ascii_run.specs.Shape.{held}
 use Rattle.ascii_run.specs.Classify.{classification}
 use Rattle.ascii_run.specs.Words.{wordsOf}
+use Rattle.words.specs.declared.Sections.{Sections}
 use Rattle.words.specs.declared.Place.{Place}
 use Rattle.words.specs.declared.Place.the-variants.{Next, Refused}
 use Rattle.refusal.specs.Fixed.{NONE, ESCAPE-STATE, DEAD-STATE}
@@ -216,15 +217,26 @@ firstBroken n [] = 0
 firstBroken n (b ∷ bs) = pick b (firstBroken (n + 1) bs) n
 
 -- rules 5 to 9
-abbrev pub rowRules : List ℕ → ℕ → ℕ → ℕ → ℕ → ℕ → List Bool
-rowRules w s a v e c = rule5 w s a ∷ rule6 w s v ∷ rule7 w s e ∷ rule8 w e c ∷ rule9 w c ∷ []
+abbrev pub rowRules : List ℕ → Sections → List Bool
+rowRules w s =
+    rule5 w (s .states) (s .ascii)
+    ∷ rule6 w (s .states) (s .wide)
+    ∷ rule7 w (s .states) (s .escapes)
+    ∷ rule8 w (s .escapes) (s .continuations)
+    ∷ rule9 w (s .continuations)
+    ∷ []
 
-abbrev pub brokenRow : List ℕ → ℕ → ℕ → ℕ → ℕ → ℕ → ℕ
-brokenRow w s a v e c = firstBroken 5 (rowRules w s a v e c)
+abbrev pub brokenRow : List ℕ → Sections → ℕ
+brokenRow w s = firstBroken 5 (rowRules w s)
 
 -- all nine
-abbrev pub rules : List ℕ → ℕ → ℕ → ℕ → ℕ → ℕ → ℕ → ℕ → ℕ → List Bool
-rules w m s r a v x e c = rule1 w m s ∷ rule2 w s a v x ∷ rule3 w s r ∷ rule4 w s r a ∷ rowRules w s a v e c
+abbrev pub rules : List ℕ → Sections → List Bool
+rules w s =
+    rule1 w (s .modes) (s .states)
+    ∷ rule2 w (s .states) (s .ascii) (s .wide) (s .accepts)
+    ∷ rule3 w (s .states) (s .runs)
+    ∷ rule4 w (s .states) (s .runs) (s .ascii)
+    ∷ rowRules w s
 
-abbrev pub broken : List ℕ → ℕ → ℕ → ℕ → ℕ → ℕ → ℕ → ℕ → ℕ → ℕ
-broken w m s r a v x e c = firstBroken 1 (rules w m s r a v x e c)
+abbrev pub broken : List ℕ → Sections → ℕ
+broken w s = firstBroken 1 (rules w s)

@@ -8,13 +8,14 @@ use mathlib.Core.Logic.{inl, inr}
 use Prim.Native.Nat.{ℕ, _+_, _≤_, _<_}
 use native.Mathlib.Omega.{arith}
 use lib.ListN.{length, length-append}
-use Rattle.layout.specs.declared.Sections.{Sections}
-use Rattle.layout.specs.declared.Sections.the-variants.{Found, Unfound}
+use Rattle.words.specs.declared.Sections.{Sections}
+use Rattle.layout.specs.declared.Layout.{Layout}
+use Rattle.layout.specs.declared.Layout.the-variants.{Found, Unfound}
 use Rattle.layout.specs.Layout.{layoutOf}
 use Rattle.rules.specs.Rules.{firstBroken, rowRules, rules, broken}
 use Rattle.table.specs.Table.{Table, State, Fields, each, stateWords, wordsOf}
 use Rattle.table.specs.Whole.{Fit}
-use Rattle.table.specs.Places.{statesPlace, runsPlace, asciiPlace, widePlace, acceptsPlace, escapesPlace, continuationsPlace, sectionsOf, brokenOf}
+use Rattle.table.specs.Places.{sectionsOf, brokenOf}
 use Rattle.table.specs.Rules.{Rule5, Rule6, Rule7, Rule8, Rule9, Rules, FirstOf, inOrder, FirstBroken}
 use Rattle.table.proofs.Codec.{at-length}
 use Rattle.table.proofs.Placed.{states-stand, fromRuns, layout-is, found-table}
@@ -81,10 +82,10 @@ few-states : (t : Table) → length (wordsOf t) ≤ 8192 → length (t .states) 
 few-states t l = omega (arith, each-long (t .states), at-length (states-stand t), length-append (each stateWords (t .states)) (fromRuns t))
 
 abbrev rowTestsOf : Table → List Bool
-rowTestsOf t = rowRules (wordsOf t) (statesPlace t) (asciiPlace t) (widePlace t) (escapesPlace t) (continuationsPlace t)
+rowTestsOf t = rowRules (wordsOf t) (sectionsOf t)
 
 abbrev testsOf : Table → List Bool
-testsOf t = rules (wordsOf t) 1 (statesPlace t) (runsPlace t) (asciiPlace t) (widePlace t) (acceptsPlace t) (escapesPlace t) (continuationsPlace t)
+testsOf t = rules (wordsOf t) (sectionsOf t)
 
 module _ (t : Table) (h : Fields t) (l : length (wordsOf t) ≤ 8192) where
   row-tests-judge : Judge (rowTestsOf t) (Rule5 t ∷ Rule6 t ∷ Rule7 t ∷ Rule8 t ∷ Rule9 t ∷ [])
@@ -118,27 +119,26 @@ module _ (t : Table) (h : Fields t) (l : length (wordsOf t) ≤ 8192) where
   broken-is k p = (failed-first 1 k (testsOf t) (inOrder t) p tests-judge, first-failed 1 k (testsOf t) (inOrder t) tests-judge)
 
   -- a table that obeys the rules is accepted, with its sections where they stand
-  pub obeys-accepted : Rules t → (layoutOf (wordsOf t) ≡ sectionsOf t) × (brokenOf t ≡ 0)
+  pub obeys-accepted : Rules t → (layoutOf (wordsOf t) ≡ Found (sectionsOf t)) × (brokenOf t ≡ 0)
   obeys-accepted r = (layout-is t h, unbroken-is .1 r)
 
 -- Words in which a layout is found
 
 -- the number of the first broken rule, by the places that were found
-abbrev brokenIn : List ℕ → Sections → ℕ
-brokenIn w (Found m s r a v x e c) = broken w m s r a v x e c
+abbrev brokenIn : List ℕ → Layout → ℕ
+brokenIn w (Found s) = broken w s
 brokenIn w (Unfound r) = 0
 
 within : (w : List ℕ) (t : Table) → length w ≤ 8192 → w ≡ wordsOf t → length (wordsOf t) ≤ 8192
 within w t n e = subst (λ y. length y ≤ 8192) e n
 
-module _ (w : List ℕ) (m s r a v x e c : ℕ) (f : Fit w) (n : length w ≤ 8192) (l : layoutOf w ≡ Found m s r a v x e c) where
+module _ (w : List ℕ) (s : Sections) (f : Fit w) (n : length w ≤ 8192) (l : layoutOf w ≡ Found s) where
   -- they are those of a table, whose rules are judged
-  found-judged : (t : Table) × Fields t × (w ≡ wordsOf t) × (brokenOf t ≡ broken w m s r a v x e c)
-  unfolding sectionsOf
+  found-judged : (t : Table) × Fields t × (w ≡ wordsOf t) × (brokenOf t ≡ broken w s)
   found-judged =
       let t = found-table w f l in
-      (t .0, t .1, t .2, ap (λ y. brokenIn y (sectionsOf (t .0))) (sym (t .2)) ∙ ap (brokenIn w) (sym (t .3) ∙ l))
+      (t .0, t .1, t .2, ap (λ y. brokenIn y (Found (sectionsOf (t .0)))) (sym (t .2)) ∙ ap (brokenIn w) (sym (t .3) ∙ l))
 
   -- what is accepted is the words of a table that obeys the rules
-  pub accepted-obeys : broken w m s r a v x e c ≡ 0 → (t : Table) × Fields t × Rules t × (w ≡ wordsOf t)
+  pub accepted-obeys : broken w s ≡ 0 → (t : Table) × Fields t × Rules t × (w ≡ wordsOf t)
   accepted-obeys z = let t = found-judged in (t .0, t .1, unbroken-is (t .0) (t .1) (within w (t .0) n (t .2)) .0 (t .3 ∙ z), t .2)

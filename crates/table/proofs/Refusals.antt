@@ -14,15 +14,15 @@ use Rattle.refusal.specs.Lists.{pick}
 use Rattle.words.specs.declared.Place.{Place}
 use Rattle.words.specs.declared.Place.the-variants.{Next, Refused}
 use Rattle.words.specs.Parse.{refused}
-use Rattle.layout.specs.declared.Sections.{Sections}
-use Rattle.layout.specs.declared.Sections.the-variants.{Found, Unfound}
+use Rattle.layout.specs.declared.Layout.{Layout}
+use Rattle.layout.specs.declared.Layout.the-variants.{Found, Unfound}
 use Rattle.layout.specs.Layout.{said, unfound, layoutOf}
 use Rattle.table.specs.Table.{wordsOf}
 use Rattle.table.specs.Whole.{Fit}
 use Rattle.table.specs.Fronts.{EndsInside, Differs, Forbids, IsTable, Opens, Refusals}
 use Rattle.table.proofs.Whole.{wholeAt}
 use Rattle.table.proofs.Accepted.{words-accepted, accepted-words}
-use Rattle.table.proofs.Agree.{ended, closed, agree}
+use Rattle.table.proofs.Agree.{asPlace, toLast, agree}
 use Rattle.table.proofs.Fronts.{one-way, Reason, ends, differs, forbids, judged, Judged, opens-read, differs-tag, three-cut, front-short, forbids-field}
 
 -- What the layout's answer says
@@ -38,7 +38,7 @@ module _ (w : List ℕ) (f : Fit w) where
   Closed (Next p) = IsTable w
   Closed (Refused r) = Why (r .number) (r .place)
 
-  closes : (x : Place) → Judged w x → Closed (closed w x)
+  closes : (x : Place) → Judged w x → Closed (toLast w x)
   closes (Refused r) j = inl j
   closes (Next p) o = go (ltb p (length w)) refl
     where
@@ -46,8 +46,8 @@ module _ (w : List ℕ) (f : Fit w) where
       go true u = inr (refl, ltb-true p (length w) u, o)
       go false u = let i : p ≡ length w = omega (arith, ltb-false p (length w) u, opens-inside w p o) in accepted-words w f (opens-read w p o ∙ ap Next i)
 
-  says : (s : Sections) → layoutOf w ≡ s → Closed (ended w s)
-  says s e = subst Closed (sym (agree w) ∙ ap (ended w) e) (closes (wholeAt w) (judged w f))
+  says : (s : Layout) → layoutOf w ≡ s → Closed (asPlace w s)
+  says s e = subst Closed (sym (agree w) ∙ ap (asPlace w) e) (closes (wholeAt w) (judged w f))
 
   -- what is given for each number
   abbrev Given : ℕ → ℕ → Type 0
@@ -65,38 +65,38 @@ module _ (w : List ℕ) (f : Fit w) where
   numbered (inl (forbids i _)) = inr (inr (inl i))
   numbered (inr (i, _, _)) = inr (inr (inr i))
 
-  found-table : (s : Sections) (l : List ℕ) → layoutOf w ≡ s → said s ≡ ok l → IsTable w
-  found-table (Found modes states runs ascii wide accepts escapes continuations) l e h = says _ e
+  found-table : (s : Layout) (l : List ℕ) → layoutOf w ≡ s → said s ≡ ok l → IsTable w
+  found-table (Found q) l e h = says _ e
   found-table (Unfound r) l e h = let z : _≡_ {A = ℕ} 0 1 = cc in absurd (omega arith)
 
   -- The other way: the whole's reading gives the layout's answer
 
-  unfound-as : {n p : ℕ} → closed w (wholeAt w) ≡ refused n p → layoutOf w ≡ unfound n p
+  unfound-as : {n p : ℕ} → toLast w (wholeAt w) ≡ refused n p → layoutOf w ≡ unfound n p
   unfound-as {n} {p} e = go (layoutOf w) (agree w ∙ e)
     where
-      go : (s : Sections) → ended w s ≡ refused n p → s ≡ unfound n p
-      go (Found modes states runs ascii wide accepts escapes continuations) h = absurd (one-way h refl)
+      go : (s : Layout) → asPlace w s ≡ refused n p → s ≡ unfound n p
+      go (Found q) h = absurd (one-way h refl)
       go (Unfound q) h = cc
 
   ends-short : EndsInside w → layoutOf w ≡ unfound SHORT (length w)
-  ends-short (inl h) = unfound-as (ap (closed w) (front-short w f h))
-  ends-short (inr (p, h, k, _, t)) = unfound-as (ap (closed w) (three-cut w p h k t))
+  ends-short (inl h) = unfound-as (ap (toLast w) (front-short w f h))
+  ends-short (inr (p, h, k, _, t)) = unfound-as (ap (toLast w) (three-cut w p h k t))
 
   table-found : IsTable w → (l : List ℕ) × (said (layoutOf w) ≡ ok l)
   table-found (t, h, e) =
       let i = ap wholeAt e ∙ words-accepted t h ∙ ap (λ l. Next (length l)) (sym e) in
-      go (layoutOf w) (agree w ∙ ap (closed w) i ∙ (rw (le-ltb (length w) (length w) (omega arith))))
+      go (layoutOf w) (agree w ∙ ap (toLast w) i ∙ (rw (le-ltb (length w) (length w) (omega arith))))
     where
-      go : (s : Sections) → ended w s ≡ Next (length w) → (l : List ℕ) × (said s ≡ ok l)
-      go (Found modes states runs ascii wide accepts escapes continuations) e = (_, refl)
+      go : (s : Layout) → asPlace w s ≡ Next (length w) → (l : List ℕ) × (said s ≡ ok l)
+      go (Found q) e = (_, refl)
       go (Unfound q) e = absurd (one-way refl e)
 
   pub refusals : Refusals w
   refusals = record {
     found = (λ h. found-table (layoutOf w) (h .0) refl (h .1), table-found);
     short = λ p. (λ e. given (says _ e) .0 refl, λ h. ends-short (h .1) ∙ ap (unfound SHORT) (sym (h .0)));
-    differs = λ p. (λ e. given (says _ e) .1 refl, λ h. unfound-as (ap (closed w) (differs-tag w (h .1))) ∙ ap (unfound TAG) (sym (h .0)));
-    field = λ p. (λ e. given (says _ e) .2 refl, λ h. unfound-as (ap (closed w) (forbids-field w p f h)));
-    left = λ p. (λ e. given (says _ e) .3 refl, λ h. unfound-as (ap (closed w) (opens-read w p (h .1)) ∙ (rw (lt-ltb p (length w) (h .0)))));
+    differs = λ p. (λ e. given (says _ e) .1 refl, λ h. unfound-as (ap (toLast w) (differs-tag w (h .1))) ∙ ap (unfound TAG) (sym (h .0)));
+    field = λ p. (λ e. given (says _ e) .2 refl, λ h. unfound-as (ap (toLast w) (forbids-field w p f h)));
+    left = λ p. (λ e. given (says _ e) .3 refl, λ h. unfound-as (ap (toLast w) (opens-read w p (h .1)) ∙ (rw (lt-ltb p (length w) (h .0)))));
     no-other = λ r e. numbered (says _ e);
   }

@@ -7,7 +7,7 @@ use lib.ListN.{length, getD, take}
 use Rattle.refusal.specs.declared.Refusal.{Refusal}
 use Rattle.refusal.specs.Said.{SHORT, TAG, FIELD, LEFT, ok}
 use Rattle.refusal.specs.Fixed.{tag}
-use Rattle.layout.specs.declared.Sections.the-variants.{Unfound}
+use Rattle.layout.specs.declared.Layout.the-variants.{Unfound}
 use Rattle.layout.specs.Layout.{said, unfound, layoutOf}
 use Rattle.table.specs.Table.{Table, each, counted, modeWords, stateWords, runWords, contextWords, configWords, continuationWords, wordsOf, Fields}
 

@@ -19,6 +19,18 @@ pub enum Place {
     Refused(Refusal),
 }
 
+// Where the sections of a table start: the places of their counts among its words.
+pub struct Sections {
+    pub modes: usize,
+    pub states: usize,
+    pub runs: usize,
+    pub ascii: usize,
+    pub wide: usize,
+    pub accepts: usize,
+    pub escapes: usize,
+    pub continuations: usize,
+}
+
 // The input ended: SHORT in words returns the word count.
 pub fn short(words: &[u32]) -> Place
     ensures { λ r. ⌜ r ≡ short (now (words .entry)) ⌝ }

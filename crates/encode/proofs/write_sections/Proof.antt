@@ -1,6 +1,6 @@
 -- The words are written three sections at a time.
 use borrow.Author.Needs.{needs}
-use Rattle.encode.proofs.Writing.{sections-written, spanning}
+use Rattle.encode.proofs.Writing.{written-all, spanning}
 use Rattle.encode.proofs.write_sections.Statement.{statement}
 use Rattle.encode.proofs.write_sections.Tie as tie
 
@@ -12,4 +12,4 @@ write-sections-spec =
     (λ c κs. (search spanning, (search spanning, (search spanning, search needs))))
     (λ c κs. (search spanning, (search spanning, (search spanning, search needs))))
     (λ c. search spanning)
-    (λ c. sections-written _ (c .before .before .before .before .before .before .before .before .before .before .before .before .before .before .pre .0) _ (search needs) (c .before .before .before .before .before .before .before .before .before .before .write-three .ensures) (c .before .before .before .before .before .before .write-three2 .ensures) (c .before .before .write-three3 .ensures)))
+    (λ c. search written-all))

@@ -1,6 +1,5 @@
 -- The words are judged as words are, and the room compared with what decoding them leaves.
-use Rattle.judge.proofs.Filled.{is-there, judging}
-use borrow.Author.Needs.{needs}
+use Rattle.judge.proofs.Filled.{judging}
 use Rattle.judge.proofs.find_table.Statement.{statement}
 use Rattle.judge.proofs.find_table.Tie as tie
 
@@ -11,7 +10,7 @@ find-table-spec =
     (λ c κs. search judging)
     (λ c. search judging)
     (λ c κs. search judging)
-    (λ c. is-there _ _ (c .before .before .before .before .before .before .before .before .pre .0) (c .before .before .before .before .before .find-sections .ensures) (c .before .before .before .modes .given .1) (c .before .is-sound .ensures) (search needs))
+    (λ c. search judging)
     (λ c κs. search judging)
     (λ c. search judging)
     (λ c κs. search judging)

@@ -1,6 +1,5 @@
 -- The tests are the definition's, in order.
 use Rattle.judge.proofs.Filled.{filling}
-use Rattle.room.proofs.Tables.{within, ordering}
 use Rattle.judge.proofs.is_filled.Statement.{statement}
 use Rattle.judge.proofs.is_filled.Tie as tie
 
@@ -8,10 +7,10 @@ pub is-filled-spec : {M : Type 1} → statement M
 is-filled-spec =
     tie.close
     (tie.spec
-    (λ c κs. (search within, (search within, (search within, (search within, (search within, (search within, (search within, search within))))))))
+    (λ c κs. search filling)
     (λ c κs. search filling)
     (λ c. search filling)
-    (λ c κs. ((search ordering, search ordering), ((search ordering, (search ordering, search ordering)), search filling)))
+    (λ c κs. (search filling, search filling))
     (λ c κs. search filling)
     (λ c. search filling)
     (λ c. search filling)

@@ -1,5 +1,5 @@
 -- The room is cleared, and a table that was found within the limits is written.
-use Rattle.room.proofs.Tables.{filling, same-laid, all-there, was-found}
+use Rattle.room.proofs.Tables.{filling, all-there}
 use Rattle.room.proofs.fill.Statement.{statement}
 use Rattle.room.proofs.fill.Tie as tie
 
@@ -13,6 +13,10 @@ fill-spec =
     (λ c κs. search filling)
     (λ c. search filling)
     (λ c. search filling)
-    (λ c. (was-found (same-laid _ _ (c .before .before .before .before .before .before .before .before .before .before .clear .ensures) (c .before .before .before .before .before .before .before .find-within-limits .ensures)) (c .before .before .before .before .before .modes .given .1), all-there _ _ (c .before .before .before .before .before .before .before .before .before .before .clear .ensures) (c .before .before .before .before .before .before .before .find-within-limits .ensures) (c .before .before .before .before .before .modes .given .1) (c .before .before .put-table .ensures)))
+    (λ c.
+    let b = c .before .before .before .before .before in
+    let got = b .before .before .find-within-limits .ensures in
+    let empty = b .before .before .before .before .before .clear .ensures in
+    (search filling, all-there _ _ (c .before .before .put-table .ensures) (b .sections .given .1) got empty))
     (λ c. search filling)
     (λ c. search filling))

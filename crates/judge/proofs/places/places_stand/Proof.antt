@@ -1,6 +1,6 @@
 -- The places of five kinds of record stand one behind the other.
 use borrow.Author.Needs.{needs}
-use Rattle.room.proofs.Tables.{before-1, before-2, before-3, before-4}
+use Rattle.layout.proofs.Found.{there}
 use Rattle.judge.proofs.Comparing.{places-stood}
 use Rattle.judge.proofs.places.places_stand.Statement.{statement}
 use Rattle.judge.proofs.places.places_stand.Tie as tie
@@ -9,9 +9,9 @@ pub places-stand-spec : {M : Type 1} → statement M
 places-stand-spec =
     tie.close
     (tie.spec
-    (λ c κs. (search (needs, before-4), search needs))
-    (λ c κs. (search (needs, before-3), search needs))
-    (λ c κs. (search (needs, before-2), search needs))
-    (λ c κs. (search (needs, before-1), search needs))
-    (λ c κs. (search needs, search needs))
+    (λ c κs. (search (needs, there), search needs))
+    (λ c κs. (search (needs, there), search needs))
+    (λ c κs. (search (needs, there), search needs))
+    (λ c κs. (search (needs, there), search needs))
+    (λ c κs. (search (needs, there), search needs))
     (λ c. search (needs, places-stood)))

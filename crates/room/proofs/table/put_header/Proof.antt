@@ -9,7 +9,7 @@ put-header-spec =
     (tie.spec
     (λ c. search heading)
     (λ c. search heading)
-    (λ c κs. search heading)
-    (λ c κs. search heading)
+    (λ c κs. ((search heading, (search heading, (search heading, search heading))), search heading))
+    (λ c κs. ((search heading, (search heading, (search heading, search heading))), search heading))
     (λ c. search heading)
     (λ c. search heading))
