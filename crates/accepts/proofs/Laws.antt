@@ -1,4 +1,4 @@
--- What is said of an accept takes no two answers to one. Assumes nothing.
+-- What is said of an accept's record takes no two answers to one. Assumes nothing.
 use Prim.Native.Nat.{ℕ}
 use mathlib.Core.Path.{_≡_, refl, sym, ap, _∙_}
 use mathlib.Core.Bool.{Bool, true, false}
@@ -7,27 +7,12 @@ use lib.Dec.{eqb}
 use lib.ListN.{getD}
 use Rattle.refusal.specs.Said.{Said, ok, no}
 use Rattle.refusal.specs.Lists.{pick}
-use Rattle.accepts.specs.declared.Accepted.{Accepted}
-use Rattle.accepts.specs.declared.Accepted.the-variants.{Number, NoState, NotTable}
 use Rattle.accepts.specs.declared.AcceptRecord.{AcceptRecord}
 use Rattle.accepts.specs.declared.AcceptRecord.the-variants as recorded
 use Rattle.accepts.specs.declared.AcceptRecord.the-variants.{Record, NoRecord}
-use Rattle.accepts.specs.Accept.{said}
 use Rattle.accepts.specs.Record as of-record
 
 -- what it says gives the answer back
-abbrev back : Said → Accepted
-back (ok l) = Number (getD l 0 0)
-back (no n p) = pick (eqb n 8) NoState NotTable
-
-back-said : (x : Accepted) → back (said x) ≡ x
-back-said (Number n) = refl
-back-said NoState = refl
-back-said NotTable = refl
-
-pub said-one : (x y : Accepted) → said x ≡ said y → x ≡ y
-said-one x y e = sym (back-said x) ∙ ap back e ∙ back-said y
-
 abbrev listBack : List ℕ → AcceptRecord
 listBack [] = NoRecord
 listBack (rule ∷ l) = Record rule (eqb (getD l 0 0) 1) (getD l 1 0)

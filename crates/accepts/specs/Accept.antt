@@ -2,16 +2,8 @@
 use Prim.Native.Nat.{ℕ, _+_}
 use mathlib.Core.List.{List, [], _∷_}
 use lib.ListN.{getD}
-use Rattle.refusal.specs.Said.{Said, ok, no, STATE, NOT-TABLE}
+use Rattle.refusal.specs.Said.{Said, ok}
 use Rattle.room_read.specs.Room.{ofState}
-use Rattle.accepts.specs.declared.Accepted.{Accepted}
-use Rattle.accepts.specs.declared.Accepted.the-variants.{Number, NoState, NotTable}
-
--- a record's number or NONE, or a refusal
-abbrev pub said : Accepted → Said
-said (Number n) = ok (n ∷ [])
-said NoState = no STATE 0
-said NotTable = no NOT-TABLE 0
 
 -- "`accept` and the continuation lookups answer a record's number or NONE"; "a number only answered isn't followed"
 abbrev pub acceptOf : List ℕ → ℕ → Said

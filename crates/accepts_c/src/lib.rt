@@ -3,31 +3,12 @@
 ghost use mathlib.Core.Path.{_≡_};
 ghost use Rattle.accepts.specs.Accept as accepting;
 ghost use Rattle.value_c.specs.Value.{valueInC};
-use accepts::Accepted;
-use refusal::NOT_TABLE;
-use refusal::STATE;
 use value_c::CValue;
-
-fn accepted_in_c(accepted: Accepted) -> CValue
-    ensures { λ r. ⌜ r ≡ valueInC (accepting.said accepted) ⌝ }
-{
-    match accepted {
-        Accepted::Number(value) => CValue { value, number: 0 },
-        Accepted::NoState => CValue {
-            value: 0,
-            number: STATE,
-        },
-        Accepted::NotTable => CValue {
-            value: 0,
-            number: NOT_TABLE,
-        },
-    }
-}
 
 // The number of a state's accept, or NONE.
 #[no_mangle]
 pub extern "C" fn lexer_dfa_accept(room: &[u32], state: u16) -> CValue
     ensures { λ r. ⌜ r ≡ valueInC (accepting.acceptOf (now (room .entry)) state) ⌝ }
 {
-    accepted_in_c(accepts::accept(room, state))
+    value_c::value_in_c(accepts::accept(room, state))
 }

@@ -2,19 +2,11 @@
 use Prim.Native.Nat.{ℕ, _+_}
 use mathlib.Core.List.{List, [], _∷_}
 use lib.ListN.{getD}
-use Rattle.refusal.specs.Said.{Said, ok, no, STATE, NOT-TABLE}
+use Rattle.refusal.specs.Said.{Said, ok, no, NOT-TABLE}
 use Rattle.refusal.specs.Fixed.{NONE}
 use Rattle.room_read.specs.Header.{ESCAPE-ROWS}
 use Rattle.room_read.specs.Room.{endOf, listedAt, follow, ofState}
 use Rattle.room_read.specs.Search.{searched, given}
-use Rattle.continuations.specs.declared.Continuation.{Continuation}
-use Rattle.continuations.specs.declared.Continuation.the-variants.{Number, NoState, NotTable}
-
--- "the continuation lookups answer a record's number or NONE", or a refusal
-abbrev pub said : Continuation → Said
-said (Number n) = ok (n ∷ [])
-said NoState = no STATE 0
-said NotTable = no NOT-TABLE 0
 
 -- a state's escape row has its number; where there is none, the room is no table
 abbrev pub inRow : List ℕ → ℕ → (ℕ → Said) → Said
@@ -27,7 +19,7 @@ searchRow w at e x = given (searched w at e x) (λ c. ok (c ∷ [])) (ok (NONE �
 abbrev pub charInRow : List ℕ → ℕ → ℕ → Said
 charInRow w row x = inRow w row (λ p. searchRow w (p + 1) (endOf w ESCAPE-ROWS) x)
 
--- "Escape rows serve ASCII too": every symbol is searched for, read as unsigned
+-- "the continuation lookups answer a record's number or NONE"; "Escape rows serve ASCII too": every symbol is searched for, read as unsigned
 abbrev pub charContinuation : List ℕ → ℕ → ℕ → Said
 charContinuation w s x = ofState w s (λ p. charInRow w s x)
 

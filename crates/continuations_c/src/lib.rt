@@ -3,33 +3,14 @@
 ghost use mathlib.Core.Path.{_≡_};
 ghost use Rattle.continuations.specs.Continuation as continuing;
 ghost use Rattle.value_c.specs.Value.{valueInC};
-use continuations::Continuation;
-use refusal::NOT_TABLE;
-use refusal::STATE;
 use value_c::CValue;
-
-fn continued_in_c(continuation: Continuation) -> CValue
-    ensures { λ r. ⌜ r ≡ valueInC (continuing.said continuation) ⌝ }
-{
-    match continuation {
-        Continuation::Number(value) => CValue { value, number: 0 },
-        Continuation::NoState => CValue {
-            value: 0,
-            number: STATE,
-        },
-        Continuation::NotTable => CValue {
-            value: 0,
-            number: NOT_TABLE,
-        },
-    }
-}
 
 // The number of a state's continuation on a character, or NONE.
 #[no_mangle]
 pub extern "C" fn lexer_dfa_char_continuation(room: &[u32], state: u16, symbol: u32) -> CValue
     ensures { λ r. ⌜ r ≡ valueInC (continuing.charContinuation (now (room .entry)) state symbol) ⌝ }
 {
-    continued_in_c(continuations::char_continuation(room, state, symbol))
+    value_c::value_in_c(continuations::char_continuation(room, state, symbol))
 }
 
 // The number of a state's continuation at the end of the input, or NONE.
@@ -37,5 +18,5 @@ pub extern "C" fn lexer_dfa_char_continuation(room: &[u32], state: u16, symbol: 
 pub extern "C" fn lexer_dfa_eof_continuation(room: &[u32], state: u16) -> CValue
     ensures { λ r. ⌜ r ≡ valueInC (continuing.eofContinuation (now (room .entry)) state) ⌝ }
 {
-    continued_in_c(continuations::eof_continuation(room, state))
+    value_c::value_in_c(continuations::eof_continuation(room, state))
 }

@@ -1,4 +1,4 @@
--- The laws that the functions cite, and that `said` takes no two answers to one. Assumes nothing.
+-- The laws that the functions cite. Assumes nothing.
 use Prim.Native.Nat.{ℕ, zero, suc, _+_, _-_, _*_, _^_, _≤_, _<_}
 use native.Mathlib.Nat.{not-suc-le-zero}
 use native.Mathlib.Numerals.{sub-one}
@@ -20,22 +20,20 @@ use Rattle.layout.specs.declared.Layout.{Layout}
 use Rattle.layout.specs.declared.Layout.the-variants as layout
 use Rattle.room_read.specs.declared.Found.{Found}
 use Rattle.room_read.specs.declared.Found.the-variants.{At}
+use Rattle.room_read.specs.declared.Answer.{Answer}
+use Rattle.room_read.specs.declared.Answer.the-variants.{Number}
+use Rattle.room_read.specs.Answer.{said}
 use Rattle.room_read.specs.Room.{stateAt, ofState}
 use Rattle.room_read.proofs.Records.{there, absent, outside, ofstate, oflist}
 use Rattle.judge.specs.Judge.{isTable, tableIn}
 use Rattle.judge.proofs.Tables.{found-table, unfound-table}
-use Rattle.targets.specs.declared.Target.{Target}
-use Rattle.targets.specs.declared.Target.the-variants.{To}
-use Rattle.targets.specs.Targets as targeting
-use Rattle.coverage.specs.declared.Covered.{Covered}
-use Rattle.coverage.specs.declared.Covered.the-variants.{Points, NoState, NotTable}
-use Rattle.coverage.specs.Coverage.{said, notDead, goesOn, count, covered, coverageOf}
+use Rattle.coverage.specs.Coverage.{notDead, goesOn, count, covered, coverageOf}
 use Rattle.coverage.specs.Spans.{below, span, spans, wideSpans}
 use Rattle.coverage.proofs.Counts.{count-most, count-start, count-next}
 use Rattle.coverage.proofs.Tables.{Numbers, state-covered}
 
 -- a target that is not the dead state is counted
-pub counts-live : (a : Target) {t : ℕ} → a ≡ To t → (t ≡ 65535 → ⊥) → _≡_ {A = ℕ} 1 (pick (notDead (targeting.said a)) 1 0)
+pub counts-live : (a : Answer) {t : ℕ} → a ≡ Number t → (t ≡ 65535 → ⊥) → _≡_ {A = ℕ} 1 (pick (notDead (said a)) 1 0)
 counts-live a {t} e z = rw (e, ne-eqb t 65535 z)
 
 pub ruleset living = (needs, eq-eqb, counts-live)
@@ -120,7 +118,7 @@ pub ruleset counting = (needs, spans-next, spans-done, spans-start, points-fit)
 -- Points that are asked one by one
 
 -- one point
-pub point-is : (a : Target) {y : Said} {r : ℕ} → targeting.said a ≡ y → r ≡ pick (notDead (targeting.said a)) 1 0 → r ≡ pick (notDead y) 1 0
+pub point-is : (a : Answer) {y : Said} {r : ℕ} → said a ≡ y → r ≡ pick (notDead (said a)) 1 0 → r ≡ pick (notDead y) 1 0
 point-is a g e = e ∙ ap (λ z. pick (notDead z) 1 0) g
 
 module _ (d : List ℕ) (s x : ℕ) {points more : ℕ} (p : points ≡ count (goesOn d s) x) (e : more ≡ pick (goesOn d s x) 1 0) where
@@ -170,16 +168,3 @@ module _ (d : List ℕ) (s : ℕ) {got : Layout} (g : got ≡ tableIn d) where
   no-table e = rw (unfound-table d (sym g ∙ e))
 
 pub ruleset judging = (needs, is-table, in-table, no-table)
-
--- `said` takes no two answers to one: what it says gives the answer back
-abbrev back : Said → Covered
-back (ok l) = Points (getD l 0 0)
-back (no n p) = pick (eqb n 8) NoState NotTable
-
-back-said : (x : Covered) → back (said x) ≡ x
-back-said (Points n) = refl
-back-said NoState = refl
-back-said NotTable = refl
-
-pub said-one : (x y : Covered) → said x ≡ said y → x ≡ y
-said-one x y e = sym (back-said x) ∙ ap back e ∙ back-said y

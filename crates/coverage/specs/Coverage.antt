@@ -5,19 +5,11 @@ use mathlib.Core.Bool.{Bool, false, not}
 use mathlib.Core.List.{List, [], _∷_}
 use lib.Dec.{eqb}
 use lib.ListN.{getD}
-use Rattle.refusal.specs.Said.{Said, ok, no, STATE, NOT-TABLE}
+use Rattle.refusal.specs.Said.{Said, ok, no, NOT-TABLE}
 use Rattle.refusal.specs.Lists.{pick}
 use Rattle.room_read.specs.Room.{ofState}
 use Rattle.judge.specs.Judge.{isTable}
 use Rattle.targets.specs.Targets.{charTarget}
-use Rattle.coverage.specs.declared.Covered.{Covered}
-use Rattle.coverage.specs.declared.Covered.the-variants.{Points, NoState, NotTable}
-
--- the number of points, or a refusal
-abbrev pub said : Covered → Said
-said (Points n) = ok (n ∷ [])
-said NoState = no STATE 0
-said NotTable = no NOT-TABLE 0
 
 -- a target other than 65535, the dead state; the escape state, 65534, is not dead
 abbrev pub lives : ℕ → Bool

@@ -7,38 +7,31 @@ ghost use Prim.Native.Nat.{_+_, _-_, _*_, _≤_, _<_};
 ghost use lib.ListN.{length};
 ghost use Rattle.refusal.specs.Said.{ok};
 ghost use Rattle.refusal.specs.Lists.{pick};
+ghost use Rattle.room_read.specs.Answer.{said};
 ghost use Rattle.room_read.specs.Room.{ofState};
 ghost use Rattle.judge.specs.Judge.{isTable};
-ghost use Rattle.targets.specs.Targets as targeting;
-ghost use Rattle.coverage.specs.Coverage.{said, notDead, goesOn, count, covered, coverageOf};
+ghost use Rattle.coverage.specs.Coverage.{notDead, goesOn, count, covered, coverageOf};
 ghost use Rattle.coverage.specs.Spans.{below, span, spans, rowSpans, wideSpans};
 use layout::Layout;
+use room_read::Answer;
 use room_read::Found;
-use targets::Target;
 
 // The first code point at which a state goes by its wide row.
 const WIDE: u32 = 128;
 
-// How many code points; or no such state, or no table.
-pub enum Covered {
-    Points(u32),
-    NoState,
-    NotTable,
-}
-
 // 1 for a target that is not dead, else 0.
-fn alive(target: Target) -> u32
-    ensures { λ r. ⌜ r ≡ pick (notDead (targeting.said target)) 1 0 ⌝ }
+fn alive(target: Answer) -> u32
+    ensures { λ r. ⌜ r ≡ pick (notDead (said target)) 1 0 ⌝ }
 {
     match target {
-        Target::To(t) => {
+        Answer::Number(t) => {
             if t == 65535 {
                 return 0;
             }
             1
         }
-        Target::NoState => 0,
-        Target::NotTable => 0,
+        Answer::NoState => 0,
+        Answer::NotTable => 0,
     }
 }
 
@@ -152,27 +145,27 @@ fn sum(ascii: u32, wide: u64) -> u32
 }
 
 // The points of a state, in a room that is a table.
-fn state_points(room: &[u32], state: u16) -> Covered
+fn state_points(room: &[u32], state: u16) -> Answer
     requires { ⌜ isTable (now room) ≡ true ⌝ }
     ensures { λ r. ⌜ said r ≡ ofState (now (room .entry)) state (λ p. ok (covered (now (room .entry)) state ∷ [])) ⌝ }
 {
     match room_read::find_state(room, state) {
-        Found::At(p) => Covered::Points(sum(
+        Found::At(p) => Answer::Number(sum(
             ascii_points(room, state),
             wide_points(room, room[p + 1]),
         )),
-        Found::Absent => Covered::NoState,
-        Found::Outside => Covered::NotTable,
+        Found::Absent => Answer::NoState,
+        Found::Outside => Answer::NotTable,
     }
 }
 
 // How many code points from 0 to 1,114,111 are not dead in a state; NOT-TABLE exactly when the room isn't what decoding leaves for some
 // accepted words.
-pub fn coverage(room: &[u32], state: u16) -> Covered
+pub fn coverage(room: &[u32], state: u16) -> Answer
     ensures { λ r. ⌜ said r ≡ coverageOf (now (room .entry)) state ⌝ }
 {
     match judge::table_in(room) {
         Layout::Found(_) => state_points(room, state),
-        Layout::Unfound(_) => Covered::NotTable,
+        Layout::Unfound(_) => Answer::NotTable,
     }
 }

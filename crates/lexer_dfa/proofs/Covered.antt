@@ -8,7 +8,7 @@ use lib.Dec.{ltb}
 use lib.ListN.{length}
 use borrow.Author.Tests.{ltb-true, ltb-false}
 use denote.Ref.{RefT}
-use Rattle.refusal.specs.Said.{Said, ok, no, STATE, NOT-TABLE, ROOM}
+use Rattle.refusal.specs.Said.{ok, no, STATE, NOT-TABLE}
 use Rattle.refusal.specs.Lists.{pick}
 use Rattle.codec.specs.declared.Decoded.{Decoded}
 use Rattle.codec.specs.Decode.{said}
@@ -19,9 +19,9 @@ use Rattle.table.specs.Whole.{Fit}
 use Rattle.roundtrip.specs.Trip.{Trip}
 use Rattle.roundtrip.proofs.RoundTrip.{round-trip}
 use Rattle.lookup_laws.proofs.Held.{Held, held}
-use Rattle.coverage.specs.declared.Covered.{Covered}
+use Rattle.room_read.specs.declared.Answer.{Answer}
+use Rattle.room_read.specs.Answer.{said as told}
 use Rattle.coverage.specs.Coverage.{coverageOf}
-use Rattle.coverage.specs.Coverage as covering
 use Rattle.coverage.specs.OnTable.{coverageOn}
 use Rattle.coverage.proofs.Tables.{held-coverage}
 use Rattle.lexer_dfa.specs.Demands.{DecodeAnswers, Accepted, Leaves, CoverageAnswers, CoveredBy}
@@ -83,7 +83,7 @@ says-no-table d s h = rw h
 
 -- The call, by its own contract: "Encoding and coverage give NOT-TABLE exactly when the room isn't what decoding leaves for some accepted words". As of the
 -- words of decode, that the room's numbers have 32 bits is a premise
-pub coverage-answers : (room : RefT (List ℕ)) → Fit (room .now) → (s : ℕ) (x : Covered) → CoverageAnswers room s x → CoveredBy (room .now) s (covering.said x)
+pub coverage-answers : (room : RefT (List ℕ)) → Fit (room .now) → (s : ℕ) (x : Answer) → CoverageAnswers room s x → CoveredBy (room .now) s (told x)
 coverage-answers room f s x a =
     let d = room .now in
     let own = table-leaves (a .0 .0, (a .0 .0, tt)) room f in

@@ -6,6 +6,7 @@ use denote.Ref.{RefT}
 use Rattle.room_read.specs.Part.{PartOf}
 use Rattle.room_read.proofs.record_in.Reads as record-in
 use Rattle.room_read.proofs.find_state.Reads as find-state
+use Rattle.room_read.proofs.Answers as answers
 use Rattle.room_lists.proofs.find_listed.Reads as find-listed
 use Rattle.row_search.proofs.search_row.Reads as search-row
 use Rattle.modes.proofs.mode_start.Reads as mode-start
@@ -20,7 +21,6 @@ use Rattle.targets.proofs.ascii_target.Reads as ascii-target
 use Rattle.char_targets.proofs.char_target.Reads as char-target
 use Rattle.char_targets.proofs.eof_target.Reads as eof-target
 use Rattle.wide_rows.proofs.find_wide_row.Reads as find-wide-row
-use Rattle.targets.proofs.Laws as targets
 use Rattle.accepts.proofs.accept.Reads as accept
 use Rattle.accept_records.proofs.accept_record.Reads as accept-record
 use Rattle.record_parts.proofs.accept_actions.Reads as accept-actions
@@ -28,7 +28,6 @@ use Rattle.accept_records.proofs.accept_actions_span.Reads as accept-actions-sp
 use Rattle.accepts.proofs.Laws as accepts
 use Rattle.continuations.proofs.char_continuation.Reads as char-continuation
 use Rattle.continuations.proofs.eof_continuation.Reads as eof-continuation
-use Rattle.continuations.proofs.Laws as continuations
 use Rattle.continuation_records.proofs.continuation_record.Reads as continuation-record
 use Rattle.record_parts.proofs.continuation_contexts.Reads as continuation-contexts
 use Rattle.record_parts.proofs.continuation_configs.Reads as continuation-configs
@@ -37,7 +36,6 @@ use Rattle.continuation_records.proofs.continuation_configs_span.Reads as conti
 use Rattle.configs.proofs.find_whole.Reads as find-whole
 use Rattle.configs.proofs.Laws as configs
 use Rattle.coverage.proofs.coverage.Reads as coverage
-use Rattle.coverage.proofs.Laws as covered
 use Rattle.run_places.proofs.find_run.Reads as find-run
 use Rattle.state_run.proofs.ascii_run.Reads as ascii-run
 use Rattle.state_scan.proofs.scan_ascii_run.Reads as scan-ascii-run
@@ -85,13 +83,13 @@ has-compiled-modes-unique κs a x y e f p q = modes.compiled-said-one x y (p ∙
 -- targets, wide_rows, char_targets
 
 pub ascii-target-unique : Determines ascii-target.Learnt
-ascii-target-unique κs a x y e f p q = targets.said-one x y (p ∙ sym q)
+ascii-target-unique κs a x y e f p q = answers.said-one x y (p ∙ sym q)
 
 pub char-target-unique : Determines char-target.Learnt
-char-target-unique κs a x y e f p q = targets.said-one x y (p ∙ sym q)
+char-target-unique κs a x y e f p q = answers.said-one x y (p ∙ sym q)
 
 pub eof-target-unique : Determines eof-target.Learnt
-eof-target-unique κs a x y e f p q = targets.said-one x y (p ∙ sym q)
+eof-target-unique κs a x y e f p q = answers.said-one x y (p ∙ sym q)
 
 pub find-wide-row-unique : Determines find-wide-row.Learnt
 find-wide-row-unique κs a x y e f p q = p ∙ sym q
@@ -99,7 +97,7 @@ find-wide-row-unique κs a x y e f p q = p ∙ sym q
 -- accepts, accept_records, record_parts
 
 pub accept-unique : Determines accept.Learnt
-accept-unique κs a x y e f p q = accepts.said-one x y (p ∙ sym q)
+accept-unique κs a x y e f p q = answers.said-one x y (p ∙ sym q)
 
 pub accept-record-unique : Determines accept-record.Learnt
 accept-record-unique κs a x y e f p q = accepts.record-said-one x y (p ∙ sym q)
@@ -113,10 +111,10 @@ accept-actions-span-unique κs a x y e f p q = p ∙ sym q
 -- continuations
 
 pub char-continuation-unique : Determines char-continuation.Learnt
-char-continuation-unique κs a x y e f p q = continuations.said-one x y (p ∙ sym q)
+char-continuation-unique κs a x y e f p q = answers.said-one x y (p ∙ sym q)
 
 pub eof-continuation-unique : Determines eof-continuation.Learnt
-eof-continuation-unique κs a x y e f p q = continuations.said-one x y (p ∙ sym q)
+eof-continuation-unique κs a x y e f p q = answers.said-one x y (p ∙ sym q)
 
 -- configs, continuation_records, record_parts
 
@@ -141,7 +139,7 @@ continuation-configs-span-unique κs a x y e f p q = p ∙ sym q
 -- coverage
 
 pub coverage-unique : Determines coverage.Learnt
-coverage-unique κs a x y e f p q = covered.said-one x y (p ∙ sym q)
+coverage-unique κs a x y e f p q = answers.said-one x y (p ∙ sym q)
 
 -- run_places, state_run, state_scan, state_scan_length
 

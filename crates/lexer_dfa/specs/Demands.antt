@@ -36,7 +36,7 @@ use Rattle.codec.proofs.decode.Reads as decode
 use Rattle.encode.specs.declared.Encoded.{Encoded}
 use Rattle.encode.specs.Encode as encoding
 use Rattle.encode.proofs.encode.Reads as encode
-use Rattle.coverage.specs.declared.Covered.{Covered}
+use Rattle.room_read.specs.declared.Answer.{Answer}
 use Rattle.coverage.specs.OnTable.{coverageOn}
 use Rattle.coverage.proofs.coverage.Reads as coverage
 
@@ -112,7 +112,7 @@ pub record EncodedBy (d : List ℕ) (n : ℕ) (says : Said) : Type 0 where
   pub no-other : (number p : ℕ) → says ≡ no number p → (number ≡ NOT-TABLE) ⊎ (number ≡ ROOM)
 
 -- coverage may answer x by its own contract
-abbrev pub CoverageAnswers : (room : RefT (List ℕ)) (state : ℕ) → Covered → Type 0
+abbrev pub CoverageAnswers : (room : RefT (List ℕ)) (state : ℕ) → Answer → Type 0
 CoverageAnswers room state x = (κs : Lfts 1) × (e : _) × coverage.Learnt κs (room, (state, tt)) x e
 
 -- what coverage says of a room d and a state

@@ -1,13 +1,10 @@
 // The records whose answer is a number, and those of a scan.
-use accepts::Accepted;
-use continuations::Continuation;
-use coverage::Covered;
 use modes::Start;
 use modes::StateCount;
 use replay_io::read;
 use replay_io::tally::Replayed;
+use room_read::Answer;
 use state_run::StateScan;
-use targets::Target;
 
 // The number of a record for no start, accept or continuation.
 const NONE: u32 = 4294967295;
@@ -30,57 +27,33 @@ fn count(answer: StateCount) -> u32 {
     }
 }
 
-// NONE is the answer's own number for no accept.
-fn accepted(answer: Accepted) -> u32 {
+// NONE is the answer's own number for no accept and for no continuation.
+fn told(answer: Answer) -> u32 {
     match answer {
-        Accepted::Number(n) => n,
-        Accepted::NoState => REFUSED,
-        Accepted::NotTable => REFUSED,
-    }
-}
-
-fn target(answer: Target) -> u32 {
-    match answer {
-        Target::To(state) => state as u32,
-        Target::NoState => REFUSED,
-        Target::NotTable => REFUSED,
-    }
-}
-
-fn continuation(answer: Continuation) -> u32 {
-    match answer {
-        Continuation::Number(n) => n,
-        Continuation::NoState => REFUSED,
-        Continuation::NotTable => REFUSED,
-    }
-}
-
-fn points(answer: Covered) -> u32 {
-    match answer {
-        Covered::Points(n) => n,
-        Covered::NoState => REFUSED,
-        Covered::NotTable => REFUSED,
+        Answer::Number(n) => n,
+        Answer::NoState => REFUSED,
+        Answer::NotTable => REFUSED,
     }
 }
 
 // What kinds 1 to 9 answer.
-fn answer(room: &[u32], kind: u8, state: u16, symbol: u32, ascii: u8) -> u32 {
+fn looked_up(room: &[u32], kind: u8, state: u16, symbol: u32, ascii: u8) -> u32 {
     match kind {
         1 => start(modes::mode_start(room, symbol)),
         2 => count(modes::state_count(room)),
-        3 => accepted(accepts::accept(room, state)),
-        4 => target(targets::ascii_target(room, state, ascii)),
-        5 => target(char_targets::char_target(room, state, symbol)),
-        6 => target(char_targets::eof_target(room, state)),
-        7 => continuation(continuations::char_continuation(room, state, symbol)),
-        8 => continuation(continuations::eof_continuation(room, state)),
-        _ => points(coverage::coverage(room, state)),
+        3 => told(accepts::accept(room, state)),
+        4 => told(targets::ascii_target(room, state, ascii)),
+        5 => told(char_targets::char_target(room, state, symbol)),
+        6 => told(char_targets::eof_target(room, state)),
+        7 => told(continuations::char_continuation(room, state, symbol)),
+        8 => told(continuations::eof_continuation(room, state)),
+        _ => told(coverage::coverage(room, state)),
     }
 }
 
 // The ASCII symbol is the first byte of the symbol.
 pub(crate) fn replay_number(room: &[u32], kind: u8, record: &[u8]) -> Replayed {
-    let ours = answer(
+    let ours = looked_up(
         room,
         kind,
         read::half(record, 1),

@@ -1,4 +1,5 @@
 pub mod Header
 pub mod Room
+pub mod Answer
 pub mod Search
 pub mod Part

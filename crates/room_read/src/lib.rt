@@ -38,6 +38,13 @@ pub enum Hit {
     Outside,
 }
 
+// What is told of a state: a number; or no such state, or no table.
+pub enum Answer {
+    Number(u32),
+    NoState,
+    NotTable,
+}
+
 // A part of the room by its place, and how many numbers it has.
 #[repr(C)]
 pub struct Span {

@@ -3,7 +3,6 @@ ghost use mathlib.Core.Path.{_≡_};
 ghost use Prim.Native.Nat.{ℕ};
 ghost use Rattle.refusal.specs.Fixed.{NONE as none};
 ghost use Rattle.refusal.specs.Lists.{pick};
-ghost use Rattle.accepts.specs.Accept as accepted;
 ghost use Rattle.accepts.specs.Record as recorded;
 ghost use Rattle.continuations.specs.Continuation as continued;
 ghost use Rattle.modes.specs.Start as started;
@@ -14,15 +13,13 @@ ghost use Rattle.tableshow.specs.Rows.{orElse, runAt};
 ghost use Rattle.tableshow.specs.Page.{part, recordLine, saidLine, acceptText, headText, untilText, rangesLine, runText, runLine, endTarget};
 ghost use Rattle.tableshow.specs.Page.{endContinuation, restText, stateText, startLine, modeText, tableText, ruleText, reasonText, refusalText};
 use crate::forms;
-use crate::rows::number_of;
+use crate::rows::number_or;
 use crate::rows::put_ascii;
 use crate::rows::put_escapes;
 use crate::rows::put_wide;
 use crate::rows::run_at;
 use crate::text::put_form;
 use accepts::AcceptRecord;
-use accepts::Accepted;
-use continuations::Continuation;
 use modes::Start;
 use refusal::NONE;
 use rules::word_at;
@@ -113,21 +110,10 @@ fn put_accept(room: &[u32], accept: u32, page: &mut [u8], n: usize) -> usize
     put_said(accept, accept_records::accept_record(room, accept), page, n)
 }
 
-// An accept's number; NONE where there is none.
-fn accept_number(answer: Accepted) -> u32
-    ensures { λ r. ⌜ r ≡ orElse none (accepted.said answer) ⌝ }
-{
-    match answer {
-        Accepted::Number(k) => k,
-        Accepted::NoState => NONE,
-        Accepted::NotTable => NONE,
-    }
-}
-
 fn put_head(room: &[u32], state: u16, page: &mut [u8], n: usize) -> usize
     ensures { λ r. ⌜ Shown (headText (now (room .entry)) state) n (now (page .entry)) r (now (page .exit)) ⌝ }
 {
-    let accept = accept_number(accepts::accept(room, state));
+    let accept = number_or(accepts::accept(room, state), NONE);
     let behind_state = put_form(forms::STATE, state as u64, 0, 0, page, n);
     put_accept(room, accept, page, behind_state)
 }
@@ -215,19 +201,8 @@ fn end_form(to: u32) -> usize
 fn put_end_of(room: &[u32], state: u16, page: &mut [u8], n: usize) -> usize
     ensures { λ r. ⌜ Shown (endTarget (orElse 65535 (eofTarget (now (room .entry)) state))) n (now (page .entry)) r (now (page .exit)) ⌝ }
 {
-    let to = number_of(char_targets::eof_target(room, state));
+    let to = number_or(char_targets::eof_target(room, state), 65535);
     put_form(end_form(to), to as u64, 0, 0, page, n)
-}
-
-// A continuation's number; NONE where there is none.
-fn continuation_number(continuation: Continuation) -> u32
-    ensures { λ r. ⌜ r ≡ orElse none (continued.said continuation) ⌝ }
-{
-    match continuation {
-        Continuation::Number(k) => k,
-        Continuation::NoState => NONE,
-        Continuation::NotTable => NONE,
-    }
 }
 
 fn continuation_form(to: u32) -> usize
@@ -242,7 +217,7 @@ fn continuation_form(to: u32) -> usize
 fn put_continuation_of(room: &[u32], state: u16, page: &mut [u8], n: usize) -> usize
     ensures { λ r. ⌜ Shown (endContinuation (orElse none (continued.eofContinuation (now (room .entry)) state))) n (now (page .entry)) r (now (page .exit)) ⌝ }
 {
-    let to = continuation_number(continuations::eof_continuation(room, state));
+    let to = number_or(continuations::eof_continuation(room, state), NONE);
     put_form(continuation_form(to), to as u64, 0, 0, page, n)
 }
 

@@ -3,7 +3,7 @@ ghost use mathlib.Core.Path.{_≡_};
 ghost use mathlib.Core.List.{[], _∷_};
 ghost use Prim.Native.Nat.{ℕ, _+_, _*_, _^_, _<_};
 ghost use lib.ListN.{getD};
-ghost use Rattle.targets.specs.Targets.{said};
+ghost use Rattle.room_read.specs.Answer.{said};
 ghost use Rattle.tableshow.specs.Shown.{Shown, joined};
 ghost use Rattle.tableshow.specs.Names.{range, target};
 ghost use Rattle.tableshow.specs.Texts.{escapes-label};
@@ -12,8 +12,8 @@ ghost use Rattle.tableshow.specs.Rows.{gap, after, ending, item, orElse,
 ghost use Rattle.tableshow.specs.Rows.{rowText, listed, runAt, wideAt, escapesAt, wideRow, firstWith, wideWith, wideText, escapesText};
 use crate::forms;
 use crate::text::put_form;
+use room_read::Answer;
 use rules::word_at;
-use targets::Target;
 
 // A range behind what parts it from the one before: `items` says how many stand on the line.
 fn gap_form(items: u32) -> usize
@@ -65,14 +65,14 @@ fn put_item(items: u32, low: u32, high: u32, kind: u32, to: u32, page: &mut [u8]
     put_form(target_form(kind, to), to as u64, 0, 0, page, behind_range)
 }
 
-// A target by its number; dead where there is none.
-pub(crate) fn number_of(target: Target) -> u32
-    ensures { λ r. ⌜ r ≡ orElse 65535 (said target) ⌝ }
+// A number that is told of a state, or another where there is none.
+pub(crate) fn number_or(answer: Answer, other: u32) -> u32
+    ensures { λ r. ⌜ r ≡ orElse other (said answer) ⌝ }
 {
-    match target {
-        Target::To(t) => t as u32,
-        Target::NoState => 65535,
-        Target::NotTable => 65535,
+    match answer {
+        Answer::Number(n) => n,
+        Answer::NoState => other,
+        Answer::NotTable => other,
     }
 }
 
@@ -81,7 +81,7 @@ fn target_on(room: &[u32], state: u16, symbol: u32) -> u32
     ensures { λ r. ⌜ r ≡ targetOn (now (room .entry)) state symbol ⌝ }
 {
     if symbol < 128 {
-        return number_of(targets::ascii_target(room, state, symbol as u8));
+        return number_or(targets::ascii_target(room, state, symbol as u8), 65535);
     }
     65535
 }

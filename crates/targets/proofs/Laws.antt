@@ -1,23 +1,18 @@
--- The laws of the targets: where an ascii row lies, and that `said` takes no two answers to one. Assumes nothing.
+-- The laws of the targets: where an ascii row lies. Assumes nothing.
 use Prim.Native.Nat.{ℕ, _+_, _*_, _/_, _^_, _<_, _≤_}
 use native.Mathlib.Omega.{arith}
-use mathlib.Core.Path.{_≡_, refl, sym, ap, _∙_}
+use mathlib.Core.Path.{_≡_, sym, _∙_}
 use mathlib.Core.List.{List}
-use lib.Dec.{eqb}
-use lib.ListN.{length, getD}
+use lib.ListN.{length}
 use mir.Syntax.{w64}
 use mir.Val.{Fits}
 use borrow.Author.Needs.{needs}
 use borrow.Author.Tests.{lt-ltb, le-ltb, eq-eqb, ne-eqb}
-use Rattle.refusal.specs.Said.{Said, ok, no}
-use Rattle.refusal.specs.Lists.{pick}
 use Rattle.room_read.specs.declared.Found.{Found}
 use Rattle.room_read.specs.declared.Found.the-variants.{At}
 use Rattle.room_read.specs.Header.{ASCII-ROWS}
 use Rattle.room_read.proofs.Records.{record-at-in-room, ofstate}
-use Rattle.targets.specs.declared.Target.{Target}
-use Rattle.targets.specs.declared.Target.the-variants.{To, NoState, NotTable}
-use Rattle.targets.specs.Targets.{said, asciiRowAt}
+use Rattle.targets.specs.Targets.{asciiRowAt}
 
 -- a symbol's word lies in its row, and the row in the room
 module _ (w : List ℕ) (row : ℕ) {p : ℕ} {got : Found} (g : got ≡ asciiRowAt w row) (e : got ≡ At p) where
@@ -36,16 +31,3 @@ pub ruleset cases = (needs, lt-ltb, le-ltb, eq-eqb, ne-eqb)
 
 -- by what is found
 pub ruleset chain = (ofstate, lt-ltb, le-ltb, symbol-word, symbol-index)
-
--- `said` takes no two answers to one: what it says gives the answer back
-abbrev back : Said → Target
-back (ok l) = To (getD l 0 0)
-back (no n p) = pick (eqb n 8) NoState NotTable
-
-back-said : (x : Target) → back (said x) ≡ x
-back-said (To t) = refl
-back-said NoState = refl
-back-said NotTable = refl
-
-pub said-one : (x y : Target) → said x ≡ said y → x ≡ y
-said-one x y e = sym (back-said x) ∙ ap back e ∙ back-said y

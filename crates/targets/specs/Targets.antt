@@ -9,14 +9,6 @@ use Rattle.room_read.specs.declared.Found.{Found}
 use Rattle.room_read.specs.Header.{ASCII-ROWS, WIDE-ROWS}
 use Rattle.room_read.specs.Room.{recordAt, endOf, listedAt, follow, ofState}
 use Rattle.room_read.specs.Search.{searched, given}
-use Rattle.targets.specs.declared.Target.{Target}
-use Rattle.targets.specs.declared.Target.the-variants.{To, NoState, NotTable}
-
--- a target, or a refusal
-abbrev pub said : Target → Said
-said (To t) = ok (t ∷ [])
-said NoState = no STATE 0
-said NotTable = no NOT-TABLE 0
 
 -- a target is "at most 65535"; it is only answered, so that it need not be a state
 abbrev pub target : ℕ → Said

@@ -1,26 +1,21 @@
 // Where a state goes on a byte. The room may be of any length and hold any numbers.
 ghost use mathlib.Core.Path.{_≡_};
-ghost use Rattle.targets.specs.Targets.{said, half, asciiRowAt, rowTarget, asciiTarget};
+ghost use Rattle.room_read.specs.Answer.{said};
+ghost use Rattle.targets.specs.Targets.{half, asciiRowAt, rowTarget, asciiTarget};
 use room_read::ASCII_ROWS;
+use room_read::Answer;
 use room_read::CONTINUATIONS;
 use room_read::Found;
 use room_read::WIDE_ROWS;
 
-// A target; or no such state, or no table.
-pub enum Target {
-    To(u16),
-    NoState,
-    NotTable,
-}
-
 // The half of a packed word that is a symbol's.
-fn half_of(word: u32, symbol: u32) -> u16
+fn half_of(word: u32, symbol: u32) -> u32
     ensures { λ r. ⌜ r ≡ half word symbol ⌝ }
 {
     if symbol % 2 == 0 {
-        return (word % 65536) as u16;
+        return word % 65536;
     }
-    (word / 65536) as u16
+    word / 65536
 }
 
 fn find_ascii_row(room: &[u32], row: u32) -> Found
@@ -33,28 +28,28 @@ fn find_ascii_row(room: &[u32], row: u32) -> Found
 }
 
 // The target in an ascii row.
-fn row_target(room: &[u32], row: u32, symbol: u32) -> Target
+fn row_target(room: &[u32], row: u32, symbol: u32) -> Answer
     ensures { λ r. ⌜ said r ≡ rowTarget (now (room .entry)) row symbol ⌝ }
 {
     match find_ascii_row(room, row) {
         Found::At(p) => {
             if symbol < 128 {
-                return Target::To(half_of(room[p + (symbol / 2) as usize], symbol));
+                return Answer::Number(half_of(room[p + (symbol / 2) as usize], symbol));
             }
-            Target::NoState
+            Answer::NoState
         }
-        Found::Absent => Target::NotTable,
-        Found::Outside => Target::NotTable,
+        Found::Absent => Answer::NotTable,
+        Found::Outside => Answer::NotTable,
     }
 }
 
 // The target on a byte; one past 127 is no symbol of an ascii row.
-pub fn ascii_target(room: &[u32], state: u16, symbol: u8) -> Target
+pub fn ascii_target(room: &[u32], state: u16, symbol: u8) -> Answer
     ensures { λ r. ⌜ said r ≡ asciiTarget (now (room .entry)) state symbol ⌝ }
 {
     match room_read::find_state(room, state) {
         Found::At(p) => row_target(room, room[p], symbol as u32),
-        Found::Absent => Target::NoState,
-        Found::Outside => Target::NotTable,
+        Found::Absent => Answer::NoState,
+        Found::Outside => Answer::NotTable,
     }
 }

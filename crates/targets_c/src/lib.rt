@@ -3,36 +3,14 @@
 ghost use mathlib.Core.Path.{_≡_};
 ghost use Rattle.targets.specs.Targets as targeting;
 ghost use Rattle.value_c.specs.Value.{valueInC};
-use refusal::NOT_TABLE;
-use refusal::STATE;
-use targets::Target;
 use value_c::CValue;
-
-fn target_in_c(target: Target) -> CValue
-    ensures { λ r. ⌜ r ≡ valueInC (targeting.said target) ⌝ }
-{
-    match target {
-        Target::To(t) => CValue {
-            value: t as u32,
-            number: 0,
-        },
-        Target::NoState => CValue {
-            value: 0,
-            number: STATE,
-        },
-        Target::NotTable => CValue {
-            value: 0,
-            number: NOT_TABLE,
-        },
-    }
-}
 
 // Where a state goes on a byte.
 #[no_mangle]
 pub extern "C" fn lexer_dfa_ascii_target(room: &[u32], state: u16, symbol: u8) -> CValue
     ensures { λ r. ⌜ r ≡ valueInC (targeting.asciiTarget (now (room .entry)) state symbol) ⌝ }
 {
-    target_in_c(targets::ascii_target(room, state, symbol))
+    value_c::value_in_c(targets::ascii_target(room, state, symbol))
 }
 
 // Where a state goes on a character, which is a 32-bit word in two's complement.
@@ -40,7 +18,7 @@ pub extern "C" fn lexer_dfa_ascii_target(room: &[u32], state: u16, symbol: u8) -
 pub extern "C" fn lexer_dfa_char_target(room: &[u32], state: u16, symbol: u32) -> CValue
     ensures { λ r. ⌜ r ≡ valueInC (targeting.charTarget (now (room .entry)) state symbol) ⌝ }
 {
-    target_in_c(char_targets::char_target(room, state, symbol))
+    value_c::value_in_c(char_targets::char_target(room, state, symbol))
 }
 
 // Where a state goes at the end of the input.
@@ -48,5 +26,5 @@ pub extern "C" fn lexer_dfa_char_target(room: &[u32], state: u16, symbol: u32) -
 pub extern "C" fn lexer_dfa_eof_target(room: &[u32], state: u16) -> CValue
     ensures { λ r. ⌜ r ≡ valueInC (targeting.eofTarget (now (room .entry)) state) ⌝ }
 {
-    target_in_c(char_targets::eof_target(room, state))
+    value_c::value_in_c(char_targets::eof_target(room, state))
 }

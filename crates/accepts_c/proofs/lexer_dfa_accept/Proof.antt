@@ -1,5 +1,5 @@
 -- The answer in C is what the call says, case by case.
-use Rattle.accepts_c.proofs.Calls.{looking}
+use Rattle.value_c.proofs.Calls.{looking}
 use Rattle.accepts_c.proofs.lexer_dfa_accept.Statement.{statement}
 use Rattle.accepts_c.proofs.lexer_dfa_accept.Tie as tie
 

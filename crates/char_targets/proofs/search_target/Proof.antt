@@ -14,4 +14,5 @@ search-target-spec =
     (λ c. search chain)
     (λ c. search chain)
     (λ c. search chain)
+    (λ c. search chain)
     (λ c. search chain))

@@ -1,5 +1,5 @@
 -- The answer in C is what the call says, case by case.
-use Rattle.continuations_c.proofs.Calls.{looking}
+use Rattle.value_c.proofs.Calls.{looking}
 use Rattle.continuations_c.proofs.lexer_dfa_eof_continuation.Statement.{statement}
 use Rattle.continuations_c.proofs.lexer_dfa_eof_continuation.Tie as tie
 

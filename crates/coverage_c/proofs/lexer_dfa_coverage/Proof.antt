@@ -1,5 +1,5 @@
 -- The answer in C is what the call says, case by case.
-use Rattle.coverage_c.proofs.Calls.{looking}
+use Rattle.value_c.proofs.Calls.{looking}
 use Rattle.coverage_c.proofs.lexer_dfa_coverage.Statement.{statement}
 use Rattle.coverage_c.proofs.lexer_dfa_coverage.Tie as tie
 

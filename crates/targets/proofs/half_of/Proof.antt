@@ -8,6 +8,4 @@ half-of-spec =
     tie.close
     (tie.spec
     (λ c. search cases)
-    (λ c. search cases)
-    (λ c. search cases)
     (λ c. search cases))
