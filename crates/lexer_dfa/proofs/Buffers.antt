@@ -11,25 +11,25 @@ use lib.ListN.{length, getD, take, drop, take-append-drop, getD-replicate, List�
 use lib.Seq.{take-at}
 use borrow.Author.Tests.{lt-ltb, le-ltb, le-leb, lt-leb}
 use Rattle.refusal.specs.Lists.{pick}
-use Rattle.written.specs.Over.{zeros, padded}
-use Rattle.room_read.specs.Search.{found, given}
-use Rattle.table.proofs.Codec.{At, start, same, on, to, at-head}
-use Rattle.lookup_laws.specs.Looks.{goalAt}
-use Rattle.lookup_laws.proofs.Stands.{at-number}
-use Rattle.transitions.specs.Transition.{Transition, points}
-use Rattle.transitions.proofs.Accepted.{AllInOrder}
-use Rattle.transitions.proofs.Order.{le-cases}
-use Rattle.segments.specs.Segments.{Asc, cutsOf, starts, startsFrom, segments, segmentsFrom}
-use Rattle.masks.specs.Masks.{bit, wordsFor, maskOf, masksAt, matrix, flat, distinct, distinctOf}
-use Rattle.masks.proofs.Packs.{length-mask, Wide, wide-masks, length-flat}
-use Rattle.masks.proofs.Keeps.{wide-distinct}
-use Rattle.row_laws.specs.Row.{Row, numbers}
-use Rattle.row_laws.specs.Demand.{heldBy, maskBit, segmentMaskFrom, segmentMaskOver, segmentMask}
-use Rattle.row_laws.proofs.Built.{asc-cuts}
-use Rattle.row_laws.proofs.Looks.{mask-exact}
-use Rattle.row_laws.proofs.Flips.{segment-mask}
-use Rattle.row_laws.proofs.Found.{found-is}
-use Rattle.rows.proofs.Joining.{length-numbers}
+use Rattle.buffer.specs.Over.{zeros, padded}
+use Rattle.room_find.specs.Search.{found, given}
+use Rattle.law_tables.proofs.Codec.{At, start, same, on, to, at-head}
+use Rattle.law_lookups.specs.Looks.{goalAt}
+use Rattle.law_lookups.proofs.Stands.{at-number}
+use Rattle.list_transitions.specs.Transition.{Transition, points}
+use Rattle.list_transitions.proofs.Accepted.{AllInOrder}
+use Rattle.list_transitions.proofs.Order.{le-cases}
+use Rattle.list_segments.specs.Segments.{Asc, cutsOf, starts, startsFrom, segments, segmentsFrom}
+use Rattle.list_masks.specs.Masks.{bit, wordsFor, maskOf, masksAt, matrix, flat, distinct, distinctOf}
+use Rattle.list_masks.proofs.Packs.{length-mask, Wide, wide-masks, length-flat}
+use Rattle.list_masks.proofs.Keeps.{wide-distinct}
+use Rattle.law_rows.specs.Row.{Row, numbers}
+use Rattle.law_rows.specs.Demand.{heldBy, maskBit, segmentMaskFrom, segmentMaskOver, segmentMask}
+use Rattle.law_rows.proofs.Built.{asc-cuts}
+use Rattle.law_rows.proofs.Looks.{mask-exact}
+use Rattle.law_rows.proofs.Flips.{segment-mask}
+use Rattle.law_rows.proofs.Found.{found-is}
+use Rattle.row_build.proofs.Joining.{length-numbers}
 use Rattle.lexer_dfa.specs.Demand3.{bitAt, searchedFor, bitFrom, pointBit}
 
 -- Numbers in front of zeros
@@ -56,10 +56,12 @@ searched-is d n rs p =
     ∙ found-is d (padded n (numbers rs)) p 0 rs (zeros (n - length (numbers rs))) (padded-stands n (numbers rs))
 
 -- .. is searched as a row of the same numbers is in a table
-pub searched-front : (d : ℕ) (buffer : List ℕ) (n : ℕ) (rs : Row) (p : ℕ) → n ≡ length (numbers rs) → numbers rs ≡ take n buffer → searchedFor d buffer n p ≡ goalAt d rs p
+pub searched-front : (d : ℕ) (buffer : List ℕ) (n : ℕ) (rs : Row) (p : ℕ) → n ≡ length (numbers rs) → numbers rs ≡ take n buffer
+    → searchedFor d buffer n p ≡ goalAt d rs p
 searched-front d buffer n rs p size e =
     let threes : n / 3 ≡ length rs = omega (arith, length-numbers rs) in
-    let stands : At buffer 0 (numbers rs ++ drop n buffer) = same (start buffer) (sym (take-append-drop n buffer) ∙ ap (λ (x : List ℕ). x ++ drop n buffer) (sym e)) in
+    let stands : At buffer 0 (numbers rs ++ drop n buffer) =
+    same (start buffer) (sym (take-append-drop n buffer) ∙ ap (λ (x : List ℕ). x ++ drop n buffer) (sym e)) in
     ap (λ (k : ℕ). given (found buffer p k 0) (λ goal. goal) d d) threes ∙ found-is d buffer p 0 rs (drop n buffer) stands
 
 -- A mask in its buffer
@@ -83,7 +85,8 @@ bit-flat {buffer} words (d ∷ ds) at post (suc k) i v a h l =
 module _ (ts : List Transition) where
   -- the distinct masks in their buffer
   pub length-distinct : length (flat (distinctOf ts)) ≡ length (distinctOf ts) * wordsFor (length ts)
-  length-distinct = length-flat (wordsFor (length ts)) (distinctOf ts) (wide-distinct (wordsFor (length ts)) [] (matrix ts) tt (wide-masks ts (starts (cutsOf ts))))
+  length-distinct =
+      length-flat (wordsFor (length ts)) (distinctOf ts) (wide-distinct (wordsFor (length ts)) [] (matrix ts) tt (wide-masks ts (starts (cutsOf ts))))
 
   pub bit-distinct : (n k i : ℕ) → k < length (distinctOf ts) → i < length ts →
       bitAt (padded n (flat (distinctOf ts))) (k * wordsFor (length ts)) i ≡ maskBit (getD (distinctOf ts) k []) i
@@ -91,7 +94,8 @@ module _ (ts : List Transition) where
       let words = wordsFor (length ts) in
       let here : k * words ≡ 0 + k * words = omega arith in
       ap (λ (j : ℕ). bitAt (padded n (flat (distinctOf ts))) j i) here
-      ∙ bit-flat words (distinctOf ts) 0 (zeros (n - length (flat (distinctOf ts)))) k i (wide-distinct words [] (matrix ts) tt (wide-masks ts (starts (cutsOf ts))))
+      ∙ bit-flat words (distinctOf ts) 0 (zeros (n - length (flat (distinctOf ts)))) k i
+      (wide-distinct words [] (matrix ts) tt (wide-masks ts (starts (cutsOf ts))))
       (padded-stands n (flat (distinctOf ts))) h (omega arith)
 
 -- The mask of the segment that has a point

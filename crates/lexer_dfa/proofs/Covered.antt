@@ -10,26 +10,27 @@ use borrow.Author.Tests.{ltb-true, ltb-false}
 use denote.Ref.{RefT}
 use Rattle.refusal.specs.Said.{ok, no, STATE, NOT-TABLE}
 use Rattle.refusal.specs.Lists.{pick}
-use Rattle.codec.specs.declared.Decoded.{Decoded}
-use Rattle.codec.specs.Decode.{said}
-use Rattle.judge.specs.Judge.{accepted, wordsPart, isTable}
-use Rattle.table.specs.Table.{Table, wordsOf, Fields}
-use Rattle.table.specs.Rules.{Rules}
-use Rattle.table.specs.Whole.{Fit}
-use Rattle.roundtrip.specs.Trip.{Trip}
-use Rattle.roundtrip.proofs.RoundTrip.{round-trip}
-use Rattle.lookup_laws.proofs.Held.{Held, held}
-use Rattle.room_read.specs.declared.Answer.{Answer}
-use Rattle.room_read.specs.Answer.{said as told}
-use Rattle.coverage.specs.Coverage.{coverageOf}
-use Rattle.coverage.specs.OnTable.{coverageOn}
-use Rattle.coverage.proofs.Tables.{held-coverage}
+use Rattle.room_decode.specs.declared.Decoded.{Decoded}
+use Rattle.room_decode.specs.Decode.{said}
+use Rattle.room_judge.specs.Judge.{accepted, wordsPart, isTable}
+use Rattle.law_tables.specs.Table.{Table, wordsOf, Fields}
+use Rattle.law_tables.specs.Rules.{Rules}
+use Rattle.law_tables.specs.Whole.{Fit}
+use Rattle.law_round_trip.specs.Trip.{Trip}
+use Rattle.law_round_trip.proofs.RoundTrip.{round-trip}
+use Rattle.law_lookups.proofs.Held.{Held, held}
+use Rattle.room_find.specs.declared.Answer.{Answer}
+use Rattle.room_find.specs.Answer.{said as told}
+use Rattle.room_coverage.specs.Coverage.{coverageOf}
+use Rattle.room_coverage.specs.OnTable.{coverageOn}
+use Rattle.room_coverage.proofs.Tables.{held-coverage}
 use Rattle.lexer_dfa.specs.Demands.{DecodeAnswers, Accepted, Leaves, CoverageAnswers, CoveredBy}
 use Rattle.lexer_dfa.proofs.Decoding.{decode-accepts, decode-refuses, table-room}
 use Rattle.lexer_dfa.proofs.RoundTrip.{said-accepted, leaves-table, table-leaves, none-left}
 
 -- where decode accepts, coverage counts the points at which the table's state goes on
-pub decoded-coverage : (words room : RefT (List ℕ)) → Fit (words .now) → 16384 ≤ length (room .now) → (x : Decoded) (left : List ℕ) → DecodeAnswers words room x left →
+pub decoded-coverage : (words room : RefT (List ℕ)) → Fit (words .now) → 16384 ≤ length (room .now) → (x : Decoded) (left : List ℕ) →
+    DecodeAnswers words room x left →
     (modes states count : ℕ) → said x ≡ ok (modes ∷ states ∷ count ∷ []) →
     (a : Accepted (words .now) modes states count) × ((s : ℕ) → coverageOf left s ≡ coverageOn (a .table) s)
 decoded-coverage words room f enough x left d modes states count e =

@@ -12,24 +12,24 @@ use borrow.Author.Tests.{ltb-true, ltb-false, lt-ltb, le-ltb, ne-eqb}
 use denote.Ref.{RefT}
 use Rattle.refusal.specs.Said.{Said, ok, no, SHORT, TAG, FIELD, LIMIT, LEFT, INDEX, ROOM}
 use Rattle.refusal.specs.Lists.{pick}
-use Rattle.layout.specs.declared.Layout.{Layout}
-use Rattle.layout.specs.declared.Layout.the-variants.{Found, Unfound}
-use Rattle.layout.specs.Layout.{unfound, layoutOf}
-use Rattle.rules.specs.Rules.{broken}
-use Rattle.written.specs.Over.{zeros}
-use Rattle.limits.specs.Limits.{laidOut}
-use Rattle.room.specs.Room.{roomFor}
-use Rattle.codec.specs.declared.Decoded.{Decoded}
-use Rattle.codec.specs.Decode.{said, judged, decodedFrom, decodeOf, keptFrom, roomOf}
-use Rattle.table.specs.Table.{Table, wordsOf, Fields}
-use Rattle.table.specs.Whole.{Fit}
-use Rattle.table.specs.Rules.{Rules, FirstOf, FirstBroken}
-use Rattle.table.specs.Places.{sectionsOf, brokenOf}
-use Rattle.table.specs.Fronts.{Exactly}
-use Rattle.table.proofs.Codec.{at-head}
-use Rattle.table.proofs.Placed.{modes-stand, states-stand, layout-is, found-table}
-use Rattle.table.proofs.Obeyed.{unbroken-is, broken-is, obeys-accepted}
-use Rattle.table.proofs.Refusals.{refusals}
+use Rattle.word_layout.specs.declared.Layout.{Layout}
+use Rattle.word_layout.specs.declared.Layout.the-variants.{Found, Unfound}
+use Rattle.word_layout.specs.Layout.{unfound, layoutOf}
+use Rattle.rule_words.specs.Rules.{broken}
+use Rattle.buffer.specs.Over.{zeros}
+use Rattle.word_layout.specs.Limits.{laidOut}
+use Rattle.room_fill.specs.Room.{roomFor}
+use Rattle.room_decode.specs.declared.Decoded.{Decoded}
+use Rattle.room_decode.specs.Decode.{said, judged, decodedFrom, decodeOf, keptFrom, roomOf}
+use Rattle.law_tables.specs.Table.{Table, wordsOf, Fields}
+use Rattle.law_tables.specs.Whole.{Fit}
+use Rattle.law_tables.specs.Rules.{Rules, FirstOf, FirstBroken}
+use Rattle.law_tables.specs.Places.{sectionsOf, brokenOf}
+use Rattle.law_tables.specs.Fronts.{Exactly}
+use Rattle.law_tables.proofs.Codec.{at-head}
+use Rattle.law_tables.proofs.Placed.{modes-stand, states-stand, layout-is, found-table}
+use Rattle.law_tables.proofs.Obeyed.{unbroken-is, broken-is, obeys-accepted}
+use Rattle.law_tables.proofs.Refusals.{refusals}
 use Rattle.lexer_dfa.specs.Demands.{DecodeAnswers, Accepted, From}
 use Rattle.lexer_dfa.specs.RefusedBy.{Read, Breaks, RefusedBy}
 
@@ -109,7 +109,8 @@ table-why t h n r = go (brokenOf t) refl
     go : (k : ℕ) → brokenOf t ≡ k → Why (wordsOf t) n (said (decodeOf (wordsOf t) n))
     go zero e =
         let o = unbroken-is t h (r .1) .0 e in
-        subst (Why (wordsOf t) n) (sym (obeys t h n r o)) (record { table = t; limit = r .1; layout = refl; fields = h; rules = o; of-modes = refl; of-states = refl; of-words = refl })
+        subst (Why (wordsOf t) n) (sym (obeys t h n r o))
+        (record { table = t; limit = r .1; layout = refl; fields = h; rules = o; of-modes = refl; of-states = refl; of-words = refl })
     go (suc k) e =
         let b = broken-is t h (r .1) (suc k) (omega arith) .0 e in
         subst (Why (wordsOf t) n) (sym (breaks t h n r (suc k) (omega arith) b)) (broken-rule refl r (t, h, b, refl))
@@ -209,7 +210,8 @@ module _ (w : List ℕ) (n : ℕ) (enough : 16384 ≤ n) {modes states count : �
   says-accepted : said (decodeOf w n) ≡ ok (modes ∷ states ∷ count ∷ [])
   says-accepted =
       let t = a .table in
-      let e = subst (λ v. said (decodeOf v n) ≡ ok (length (t .modes) ∷ length (t .states) ∷ length v ∷ [])) (sym (a .layout)) (obeys t (a .fields) n reads (a .rules)) in
+      let e = subst (λ v. said (decodeOf v n) ≡ ok (length (t .modes) ∷ length (t .states) ∷ length v ∷ [])) (sym (a .layout))
+      (obeys t (a .fields) n reads (a .rules)) in
       e ∙ (rw (a .of-modes, a .of-states, a .of-words))
 
   -- and the room is the table's
@@ -264,6 +266,7 @@ accepted-room words room enough x left a modes states count t = sym (a .3) ∙ a
 
 -- the same over the table's own words
 pub table-room : (words room : RefT (List ℕ)) → 16384 ≤ length (room .now) → (x : Decoded) (left : List ℕ) → DecodeAnswers words room x left →
-    (modes states count : ℕ) (t : Accepted (words .now) modes states count) → roomFor (wordsOf (t .table)) (length (room .now)) (Found (sectionsOf (t .table))) ≡ left
+    (modes states count : ℕ) (t : Accepted (words .now) modes states count) →
+    roomFor (wordsOf (t .table)) (length (room .now)) (Found (sectionsOf (t .table))) ≡ left
 table-room words room enough x left a modes states count t =
     sym (accepted-room words room enough x left a modes states count t ∙ ap (λ v. roomFor v (length (room .now)) (Found (sectionsOf (t .table)))) (t .layout))

@@ -12,17 +12,18 @@ use borrow.Author.Tests.{eqb-true, leb-true, leb-false, not-false}
 use Rattle.refusal.specs.Lists.{before}
 use Rattle.refusal.proofs.Lists.{before-≤, not-eqb}
 use Rattle.refusal.proofs.Fronts.{before-front, before-at}
-use Rattle.ascii_range.specs.Ranges.{loopsAt, exitsAt, rangesFrom}
-use Rattle.ascii_range.proofs.Maximal.{passing-row, ranges-hold, ranges-ordered}
-use Rattle.ascii_run.specs.declared.AsciiRun.{AsciiRun}
-use Rattle.ascii_run.specs.declared.AsciiRun.the-variants.{None}
-use Rattle.ascii_run.specs.declared.Answered.the-variants.{Ran}
-use Rattle.ascii_run.specs.declared.RunAnswer.{RunAnswer}
-use Rattle.ascii_run.specs.declared.Scanned.{Scanned}
-use Rattle.ascii_run.specs.Shape.{none}
-use Rattle.ascii_run.specs.Classify.{exitsFrom, classification}
-use Rattle.ascii_run.specs.Scan.{stops, skipped}
-use Rattle.run_classify.proofs.Described.{exits-hold, exits-ascend, gives-any, gives-until, gives-ranges, gives-none, classification-stops, run-said, ran-row, ran-shape, ran-some}
+use Rattle.run_ranges.specs.Ranges.{loopsAt, exitsAt, rangesFrom}
+use Rattle.run_ranges.proofs.Maximal.{passing-row, ranges-hold, ranges-ordered}
+use Rattle.run_shape.specs.declared.AsciiRun.{AsciiRun}
+use Rattle.run_shape.specs.declared.AsciiRun.the-variants.{None}
+use Rattle.run_shape.specs.declared.Answered.the-variants.{Ran}
+use Rattle.run_shape.specs.declared.RunAnswer.{RunAnswer}
+use Rattle.run_shape.specs.declared.Scanned.{Scanned}
+use Rattle.run_shape.specs.Shape.{none}
+use Rattle.run_shape.specs.Classify.{exitsFrom, classification}
+use Rattle.run_shape.specs.Scan.{stops, skipped}
+use Rattle.run_classify.proofs.Described.{exits-hold, exits-ascend, gives-any, gives-until, gives-ranges, gives-none}
+use Rattle.run_classify.proofs.Described.{classification-stops, run-said, ran-row, ran-shape, ran-some}
 use Rattle.run_scan.proofs.ScanSaid.{scanned-one}
 use Rattle.lexer_dfa.specs.Demands.{AsciiOnly, LoopsOn, Longest, ScansLongest, runTells, ClassifyAnswers, ScanAnswers, ScanLengthAnswers, Described}
 
@@ -68,12 +69,14 @@ before-longest p P bs f g =
 pub run-is-longest : (state : ℕ) (row : List ℕ) → length row ≡ 128 → (classification state row ≡ none → ⊥) → (bs : List ℕ) → AsciiOnly bs →
     Longest (LoopsOn state row) bs (skipped (classification state row) bs)
 run-is-longest state row w n bs a =
-    before-longest (stops (classification state row)) (LoopsOn state row) bs (λ i h e. eqb-true _ state (not-false _ (sym (here i h) ∙ e))) (λ i h e. here i h ∙ not-eqb _ state e) where
+    before-longest (stops (classification state row)) (LoopsOn state row) bs (λ i h e. eqb-true _ state (not-false _ (sym (here i h) ∙ e)))
+    (λ i h e. here i h ∙ not-eqb _ state e) where
       here : (i : ℕ) → i < length bs → stops (classification state row) (getD bs i 0) ≡ exitsAt state (getD row (getD bs i 0) 0)
       here i h = classification-stops state row n (getD bs i 0) (omega (arith, a i h))
 
 -- the same of the calls, by their own contracts: where `classify` answers a run that is not none, the scans by it hand back that front part
-pub scan-is-longest : (row : RefT (List ℕ)) (state : ℕ) (x : RunAnswer) → ClassifyAnswers row state x → (kind : AsciiRun) → x .answer ≡ Ran kind → (kind ≡ None → ⊥) →
+pub scan-is-longest : (row : RefT (List ℕ)) (state : ℕ) (x : RunAnswer) → ClassifyAnswers row state x → (kind : AsciiRun) →
+    x .answer ≡ Ran kind → (kind ≡ None → ⊥) →
     (input : RefT (List ℕ)) → AsciiOnly (input .now) →
     (part : RefT (List ℕ)) → ScanAnswers (record { kind = kind; ranges = x .ranges }) input part →
     (says : Scanned) → ScanLengthAnswers (record { kind = kind; ranges = x .ranges }) input says →

@@ -1,5 +1,6 @@
--- DEMAND 3, over the calls' own contracts: a row call that is asked as document 01 says answers rows, in which the target and the continuation looked up at each
--- point are those given for exactly the transitions that hold it; complements flip every bit; and builds that answer the same have the same rows. Assumes nothing.
+-- DEMAND 3, over the calls' own contracts: a row call that is asked as document 01 says answers rows, in which the target and the continuation looked up at
+-- each point are those given for exactly the transitions that hold it; complements flip every bit; and builds that answer the same have the same rows.
+-- Assumes nothing.
 use Prim.Native.Nat.{ℕ, suc, _*_, _-_, _≤_, _<_}
 use native.Mathlib.Omega.{arith}
 use mathlib.Core.Path.{_≡_, refl, sym, ap, ap₂, subst, _∙_}
@@ -12,39 +13,41 @@ use denote.Ref.{RefT}
 use borrow.Author.Tests.{lt-ltb, le-ltb, eq-eqb}
 use Rattle.refusal.specs.Said.{ok}
 use Rattle.refusal.specs.Fixed.{NONE}
-use Rattle.written.specs.Over.{zeros, padded}
-use Rattle.table.specs.Table.{Table}
-use Rattle.table.proofs.Codec.{At}
-use Rattle.lookup_laws.specs.Looks as table
-use Rattle.lookup_laws.specs.Looks.{goalAt, stateOf, ofState}
-use Rattle.transitions.specs.Transition.{Transition, points, Complement}
-use Rattle.transitions.specs.Read.{Parsed, parsed, refused, parse, isParsed, accepted}
-use Rattle.transitions.proofs.Accepted.{listed}
-use Rattle.transitions.proofs.Order.{le-cases}
-use Rattle.segments.specs.Segments.{cutsOf, starts, segments}
-use Rattle.segments.specs.Answer.{parseFor, segmentsIn}
-use Rattle.masks.specs.declared.Masks.{Masks}
-use Rattle.masks.specs.declared.Masks.the-variants as variant
-use Rattle.masks.specs.declared.Masks.the-variants.{Count}
-use Rattle.masks.specs.Masks.{bit, wordsFor, flat, matrix, distinctOf}
-use Rattle.masks.specs.Answer as masks
-use Rattle.masks.specs.Answer.{parseMasks, parseDistinct, masksIn, Matrix, Distinct}
-use Rattle.masks.proofs.Packs.{length-masks}
-use Rattle.mask_places.proofs.Answers.{accepted-list}
-use Rattle.row_laws.specs.Row.{DEAD, numbers}
-use Rattle.row_laws.specs.Build.{targetRow, asciiOf, wideOf, escapeOf}
-use Rattle.row_laws.specs.Demand as law
-use Rattle.row_laws.proofs.Parts.{length-values}
-use Rattle.row_laws.proofs.Looks.{accepted-looked, mask-exact}
-use Rattle.row_laws.proofs.Flips.{segment-mask, flipped}
-use Rattle.row_laws.proofs.SameRows.{same-rows, wide-searchable, escape-searchable}
-use Rattle.row_laws.proofs.Goals.{wide-given, escape-given}
-use Rattle.rows.specs.declared.Rows.{Rows}
-use Rattle.rows.specs.declared.Rows.the-variants.{Built, Refused}
-use Rattle.rows.specs.Answer.{said, Lent, lent, tooShort, withRows, parseRows, counted, asciiIn, wideIn, escapeIn, Builds}
-use Rattle.rows.proofs.Joining.{length-numbers}
-use Rattle.rows.proofs.Asking.{rows-asked}
-use Rattle.lexer_dfa.specs.Demand3.{Read, listOf, wordsOf, bitAt, RowArgs, RowsLeft, BuildAnswers, Asked, searchedFor, targetAt, contAt, Placed, RowsKept, RowsIn, SameLookups, SameAnswers, SameRows, MatrixAnswers, pointBit, MasksAsked, MasksKept, Flipped, DistinctAnswers, MasksAgree}
+use Rattle.buffer.specs.Over.{zeros, padded}
+use Rattle.law_tables.specs.Table.{Table}
+use Rattle.law_tables.proofs.Codec.{At}
+use Rattle.law_lookups.specs.Looks as table
+use Rattle.law_lookups.specs.Looks.{goalAt, stateOf, ofState}
+use Rattle.list_transitions.specs.Transition.{Transition, points, Complement}
+use Rattle.list_transitions.specs.Read.{Parsed, parsed, refused, parse, isParsed, accepted}
+use Rattle.list_transitions.proofs.Accepted.{listed}
+use Rattle.list_transitions.proofs.Order.{le-cases}
+use Rattle.list_segments.specs.Segments.{cutsOf, starts, segments}
+use Rattle.list_segments.specs.Answer.{parseFor, segmentsIn}
+use Rattle.list_masks.specs.declared.Masks.{Masks}
+use Rattle.list_masks.specs.declared.Masks.the-variants as variant
+use Rattle.list_masks.specs.declared.Masks.the-variants.{Count}
+use Rattle.list_masks.specs.Masks.{bit, wordsFor, flat, matrix, distinctOf}
+use Rattle.list_masks.specs.Answer as masks
+use Rattle.list_masks.specs.Answer.{parseMasks, parseDistinct, masksIn, Matrix, Distinct}
+use Rattle.list_masks.proofs.Packs.{length-masks}
+use Rattle.list_distinct.proofs.PlaceAnswers.{accepted-list}
+use Rattle.law_rows.specs.Row.{DEAD, numbers}
+use Rattle.law_rows.specs.Build.{targetRow, asciiOf, wideOf, escapeOf}
+use Rattle.law_rows.specs.Demand as law
+use Rattle.law_rows.proofs.Parts.{length-values}
+use Rattle.law_rows.proofs.Looks.{accepted-looked, mask-exact}
+use Rattle.law_rows.proofs.Flips.{segment-mask, flipped}
+use Rattle.law_rows.proofs.SameRows.{same-rows, wide-searchable, escape-searchable}
+use Rattle.law_rows.proofs.Goals.{wide-given, escape-given}
+use Rattle.row_build.specs.declared.Rows.{Rows}
+use Rattle.row_build.specs.declared.Rows.the-variants.{Built, Refused}
+use Rattle.row_build.specs.Answer.{said, Lent, lent, tooShort, withRows, parseRows, counted, asciiIn, wideIn, escapeIn, Builds}
+use Rattle.row_build.proofs.Joining.{length-numbers}
+use Rattle.row_build.proofs.Asking.{rows-asked}
+use Rattle.lexer_dfa.specs.Demand3.{Read, listOf, wordsOf, bitAt, RowArgs, RowsLeft, BuildAnswers, Asked, searchedFor, targetAt}
+use Rattle.lexer_dfa.specs.Demand3.{contAt, Placed, RowsKept, RowsIn, SameLookups, SameAnswers, SameRows, MatrixAnswers, pointBit}
+use Rattle.lexer_dfa.specs.Demand3.{MasksAsked, MasksKept, Flipped, DistinctAnswers, MasksAgree}
 use Rattle.lexer_dfa.proofs.Buffers.{padded-at, padded-front, padded-stands, searched-is, searched-front, length-distinct, bit-distinct, bit-holds}
 
 -- The rows of a list, as they stand in the buffers
@@ -145,7 +148,8 @@ unfolding parseDistinct
 distinct-parsed s n d w a b c g = rw (le-ltb d 8192 c) (masks-parsed s n w a b g)
 
 rows-parsed : (l : Lent) (targets conts : List ℕ) (ts : List Transition) → length targets ≡ length (distinctOf ts) → length conts ≡ length (distinctOf ts) →
-    128 ≤ l .ascii → 6144 ≤ l .wide → 6144 ≤ l .escape → withRows (length targets) (length conts) (tooShort (l .ascii) (l .wide) (l .escape)) (parsed ts) ≡ parsed ts
+    128 ≤ l .ascii → 6144 ≤ l .wide → 6144 ≤ l .escape →
+    withRows (length targets) (length conts) (tooShort (l .ascii) (l .wide) (l .escape)) (parsed ts) ≡ parsed ts
 unfolding withRows
 rows-parsed l targets conts ts t c x y z =
     rw (
@@ -162,14 +166,17 @@ lentBy a = lent (a .segments .now) (a .masks .now) (a .distinct .now) (a .ascii 
 asked-parsed : (a : RowArgs) → Asked a → parseRows (lentBy a) (a .list .now) (a .targets .now) (a .conts .now) ≡ parsed (listOf (a .list .now))
 asked-parsed a q =
     ap (withRows (length (a .targets .now)) (length (a .conts .now)) (tooShort (length (a .ascii .now)) (length (a .wide .now)) (length (a .escape .now))))
-    (distinct-parsed (length (a .segments .now)) (length (a .masks .now)) (length (a .distinct .now)) (a .list .now) (q .segments-room) (q .masks-room) (q .distinct-room) (q .accepted))
-    ∙ rows-parsed (lentBy a) (a .targets .now) (a .conts .now) (listOf (a .list .now)) (q .a-target-each) (q .a-continuation-each) (q .ascii-room) (q .wide-room) (q .escape-room)
+    (distinct-parsed (length (a .segments .now)) (length (a .masks .now)) (length (a .distinct .now)) (a .list .now) (q .segments-room) (q .masks-room)
+    (q .distinct-room) (q .accepted))
+    ∙ rows-parsed (lentBy a) (a .targets .now) (a .conts .now) (listOf (a .list .now)) (q .a-target-each) (q .a-continuation-each) (q .ascii-room)
+    (q .wide-room) (q .escape-room)
 
 -- the call's own contract, over what it left
 record Given (a : RowArgs) (x : Rows) (l : RowsLeft) : Type 0 where
   segments : List ℕ
   masks : List ℕ
-  built : Builds x (lentBy a) segments masks (l .distinct) (l .ascii) (l .wide) (l .escape) (a .targets .now) (a .conts .now) (parseRows (lentBy a) (a .list .now) (a .targets .now) (a .conts .now))
+  built : Builds x (lentBy a) segments masks (l .distinct) (l .ascii) (l .wide) (l .escape) (a .targets .now) (a .conts .now)
+      (parseRows (lentBy a) (a .list .now) (a .targets .now) (a .conts .now))
 
 given : (a : RowArgs) (x : Rows) (l : RowsLeft) → BuildAnswers a x l → Given a x l
 given a x l b = record { segments = b .1 .1 .1 .1 .0 .now; masks = b .1 .1 .1 .1 .1 .0 .now; built = rw (b .3, b .4, b .5, b .6) at (b .2) }
@@ -224,9 +231,11 @@ rows-kept a q x l b =
     let targets = a .targets .now in
     let conts = a .conts .now in
     let f = given a x l b in
-    let h = subst (λ (y : Parsed). Builds x (lentBy a) (f .segments) (f .masks) (l .distinct) (l .ascii) (l .wide) (l .escape) targets conts y) (asked-parsed a q) (f .built) in
+    let h = subst (λ (y : Parsed). Builds x (lentBy a) (f .segments) (f .masks) (l .distinct) (l .ascii) (l .wide) (l .escape) targets conts y)
+    (asked-parsed a q) (f .built) in
     let t = told x (h .says) in
-    let g = subst (λ (y : Rows). Builds y (lentBy a) (f .segments) (f .masks) (l .distinct) (l .ascii) (l .wide) (l .escape) targets conts (parsed (listOf w))) (t .is) h in
+    let g = subst (λ (y : Rows).
+    Builds y (lentBy a) (f .segments) (f .masks) (l .distinct) (l .ascii) (l .wide) (l .escape) targets conts (parsed (listOf w))) (t .is) h in
     subst (λ (y : Rows). RowsKept w targets conts y l) (sym (t .is)) (laid-kept w targets conts (q .accepted) (q .a-target-each) (built-laid (listOf w) g))
 
 -- THEOREM: "Two builds whose rows answer the same target and continuation at every point have the same rows, number for number."
@@ -283,7 +292,8 @@ matrix-kept w x n k s m good h =
       bits = λ p i g l.
           ap (λ (c : ℕ). pointBit s m c (wordsOf w) p i) many
           ∙ bit-holds ts s m p i l (listed w good .order) g (zeros (n - length (segments (cutsOf ts)))) (zeros (k - length (flat (matrix ts))))
-          (subst (λ (b : List ℕ). At b 0 (segments (cutsOf ts) ++ zeros (n - length (segments (cutsOf ts))))) (sym (h .low-high)) (padded-stands n (segments (cutsOf ts))))
+          (subst (λ (b : List ℕ). At b 0 (segments (cutsOf ts) ++ zeros (n - length (segments (cutsOf ts))))) (sym (h .low-high))
+          (padded-stands n (segments (cutsOf ts))))
           (subst (λ (b : List ℕ). At b 0 (flat (matrix ts) ++ zeros (k - length (flat (matrix ts))))) (sym (h .leaves)) (padded-stands k (flat (matrix ts))));
     }
 
@@ -305,7 +315,8 @@ complement-length (t ∷ ts) [] c = absurd c
 complement-length (t ∷ ts) (u ∷ us) c = ap suc (complement-length ts us (c .1))
 
 -- THEOREM: "If two accepted lists are complements place by place, each transition's bit is flipped at every point."
-pub masks-flipped : (list segments masks : RefT (List ℕ)) → MasksAsked list segments masks → (x : Masks) (s m : List ℕ) → MatrixAnswers list segments masks x s m →
+pub masks-flipped : (list segments masks : RefT (List ℕ)) → MasksAsked list segments masks → (x : Masks) (s m : List ℕ) →
+    MatrixAnswers list segments masks x s m →
     (list′ segments′ masks′ : RefT (List ℕ)) → MasksAsked list′ segments′ masks′ → (y : Masks) (s′ m′ : List ℕ) → MatrixAnswers list′ segments′ masks′ y s′ m′ →
     Complement (listOf (list .now)) (listOf (list′ .now)) → Flipped (list .now) x s m (list′ .now) y s′ m′
 masks-flipped list segments masks q x s m b list′ segments′ masks′ q′ y s′ m′ b′ c =
@@ -344,7 +355,8 @@ record Counted (n k : ℕ) (r : ℕ) (d : List ℕ) (x : Parsed) : Type 0 where
   words : k ≡ wordsFor (length ts)
   stands : d ≡ padded r (flat (distinctOf ts))
 
-counted-parsed : {n k s : ℕ} {seg : List ℕ} {j : ℕ} {masks : List ℕ} (r : ℕ) {d : List ℕ} (x : Parsed) → Distinct (Count n k) s seg j masks r d x → Counted n k r d x
+counted-parsed : {n k s : ℕ} {seg : List ℕ} {j : ℕ} {masks : List ℕ} (r : ℕ) {d : List ℕ} (x : Parsed)
+    → Distinct (Count n k) s seg j masks r d x → Counted n k r d x
 unfolding masks.counted masksIn
 counted-parsed r (parsed ts) b = let e = b .says in record { ts = ts; is = refl; count = cc; words = cc; stands = b .leaves }
 counted-parsed r (refused k p) b = let e = b .says in let z : _≡_ {A = ℕ} 0 1 = cc in absurd (omega arith)
@@ -360,11 +372,16 @@ masks-agree list segments masks out n k d b a w e l y same =
     let f = given a (Built w e) l y in
     let built = built-parsed _ (f .built) in
     let ts = built .0 in
-    let asked = rows-asked (length (a .targets .now)) (length (a .conts .now)) (tooShort (length (a .ascii .now)) (length (a .wide .now)) (length (a .escape .now))) (parseDistinct (length (a .segments .now)) (length (a .masks .now)) (length (a .distinct .now)) (a .list .now)) (built .1) in
-    let read = ap parse (sym same) ∙ accepted-list (length (a .segments .now)) (length (a .masks .now)) (length (a .distinct .now)) (a .list .now) ts (asked .0) in
-    let laid = built-laid ts (subst (λ (x : Parsed). Builds (Built w e) (lentBy a) (f .segments) (f .masks) (l .distinct) (l .ascii) (l .wide) (l .escape) (a .targets .now) (a .conts .now) x) (built .1) (f .built)) in
-    let tells = counted-parsed (length (out .now)) (parseDistinct (length (segments .now)) (length (masks .now)) (length (out .now)) bytes) (rw (b .3) at (b .2)) in
-    let one : tells .ts ≡ ts = one-list (sym (accepted-list (length (segments .now)) (length (masks .now)) (length (out .now)) bytes (tells .ts) (tells .is)) ∙ read) in
+    let asked = rows-asked (length (a .targets .now)) (length (a .conts .now)) (tooShort (length (a .ascii .now)) (length (a .wide .now))
+    (length (a .escape .now))) (parseDistinct (length (a .segments .now)) (length (a .masks .now)) (length (a .distinct .now)) (a .list .now)) (built .1) in
+    let read = ap parse (sym same)
+    ∙ accepted-list (length (a .segments .now)) (length (a .masks .now)) (length (a .distinct .now)) (a .list .now) ts (asked .0) in
+    let laid = built-laid ts (subst (λ (x : Parsed). Builds (Built w e) (lentBy a) (f .segments) (f .masks) (l .distinct) (l .ascii) (l .wide) (l .escape)
+    (a .targets .now) (a .conts .now) x) (built .1) (f .built)) in
+    let tells = counted-parsed (length (out .now)) (parseDistinct (length (segments .now)) (length (masks .now)) (length (out .now)) bytes)
+    (rw (b .3) at (b .2)) in
+    let one : tells .ts ≡ ts =
+    one-list (sym (accepted-list (length (segments .now)) (length (masks .now)) (length (out .now)) bytes (tells .ts) (tells .is)) ∙ read) in
     let count : n ≡ length (distinctOf ts) = tells .count ∙ ap (λ (x : List Transition). length (distinctOf x)) one in
     let size : n * k ≡ length (flat (distinctOf ts)) =
     ap₂ (λ (x y : ℕ). x * y) count (tells .words ∙ ap (λ (x : List Transition). wordsFor (length x)) one) ∙ sym (length-distinct ts) in

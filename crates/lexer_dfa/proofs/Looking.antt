@@ -8,29 +8,30 @@ use denote.Ref.{RefT}
 use borrow.Author.Tests.{lt-ltb}
 use Rattle.refusal.specs.Said.{ok, no, STATE}
 use Rattle.refusal.specs.Lists.{pick}
-use Rattle.ascii_run.specs.Shape.{none}
-use Rattle.ascii_run.specs.Classify.{classification}
-use Rattle.ascii_run.specs.Scan.{skipped, scanSaid}
+use Rattle.run_shape.specs.Shape.{none}
+use Rattle.run_shape.specs.Classify.{classification}
+use Rattle.run_shape.specs.Scan.{skipped, scanSaid}
 use Rattle.run_classify.proofs.Described.{run-said}
-use Rattle.state_run.specs.declared.StateScan.{StateScan}
-use Rattle.state_run.specs.declared.StateScan.the-variants.{NoRun}
-use Rattle.state_run.specs.StateRun as scan
-use Rattle.state_run.specs.StateRun.{asciiRun, skippedBy, scannedBy}
-use Rattle.state_run.proofs.Laws.{said-one}
-use Rattle.codec.specs.declared.Decoded.{Decoded}
-use Rattle.codec.specs.Decode.{said}
-use Rattle.table.specs.Rules.{rowOf}
-use Rattle.table.specs.Whole.{Fit}
-use Rattle.table.proofs.Classified.{state-row-long}
-use Rattle.lookup_laws.specs.Looks.{Looks}
-use Rattle.lookup_laws.specs.Never.{Never}
-use Rattle.lookup_laws.proofs.Rooms.{room-looks, room-never}
+use Rattle.look_runs.specs.declared.StateScan.{StateScan}
+use Rattle.look_runs.specs.declared.StateScan.the-variants.{NoRun}
+use Rattle.look_runs.specs.StateRun as scan
+use Rattle.look_runs.specs.StateRun.{asciiRun, skippedBy, scannedBy}
+use Rattle.look_runs.proofs.Laws.{said-one}
+use Rattle.room_decode.specs.declared.Decoded.{Decoded}
+use Rattle.room_decode.specs.Decode.{said}
+use Rattle.law_tables.specs.Rules.{rowOf}
+use Rattle.law_tables.specs.Whole.{Fit}
+use Rattle.law_tables.proofs.Classified.{state-row-long}
+use Rattle.law_lookups.specs.Looks.{Looks}
+use Rattle.law_lookups.specs.Never.{Never}
+use Rattle.law_lookups.proofs.Rooms.{room-looks, room-never}
 use Rattle.lexer_dfa.specs.Demands.{DecodeAnswers, Accepted, AsciiOnly, LoopsOn, ScansLongest, stateTells, StateScanAnswers, StateScanLengthAnswers}
 use Rattle.lexer_dfa.proofs.Demand2.{run-is-longest}
 use Rattle.lexer_dfa.proofs.Decoding.{decode-accepts, table-room}
 
 -- where decode accepts, lookups on the room give what the table says, and NOT-TABLE is "never met"
-pub decoded-looks : (words room : RefT (List ℕ)) → Fit (words .now) → 16384 ≤ length (room .now) → (x : Decoded) (left : List ℕ) → DecodeAnswers words room x left →
+pub decoded-looks : (words room : RefT (List ℕ)) → Fit (words .now) → 16384 ≤ length (room .now) → (x : Decoded) (left : List ℕ) →
+    DecodeAnswers words room x left →
     (modes states count : ℕ) → said x ≡ ok (modes ∷ states ∷ count ∷ []) → (a : Accepted (words .now) modes states count) × Looks (a .table) left × Never left
 decoded-looks words room f enough x left d modes states count e =
     let n = length (room .now) in
@@ -44,9 +45,10 @@ none-said : (bs : List ℕ) → scanSaid none bs ≡ ok []
 unfolding scanSaid
 none-said bs = refl
 
--- "Over ASCII-only bytes, a state's run, where it has one, is the longest front part on which it loops": the scans by the run of a state, in any room that has the
--- numbers that decode left
-pub state-scan-is-longest : (words room : RefT (List ℕ)) → Fit (words .now) → 16384 ≤ length (room .now) → (x : Decoded) (left : List ℕ) → DecodeAnswers words room x left →
+-- "Over ASCII-only bytes, a state's run, where it has one, is the longest front part on which it loops": the scans by the run of a state, in any room that has
+-- the numbers that decode left
+pub state-scan-is-longest : (words room : RefT (List ℕ)) → Fit (words .now) → 16384 ≤ length (room .now) → (x : Decoded) (left : List ℕ) →
+    DecodeAnswers words room x left →
     (modes states count : ℕ) → said x ≡ ok (modes ∷ states ∷ count ∷ []) →
     (lent : RefT (List ℕ)) → lent .now ≡ left → (s : ℕ) → s < states → (input : RefT (List ℕ)) → AsciiOnly (input .now) →
     (part : RefT (List ℕ)) → StateScanAnswers lent s input part → (says : StateScan) → StateScanLengthAnswers lent s input says → (says ≡ NoRun → ⊥) →
@@ -60,8 +62,10 @@ state-scan-is-longest words room f enough x left d modes states count e lent is 
     let l : s < length (t .states) = subst (λ n. s < n) (a .of-states) there in
     let c = classification s (rowOf t s) in
     let n = skipped c bs in
-    let told : scan.said says ≡ scanSaid c bs = q .2 ∙ ap (λ w. scannedBy (asciiRun w s) bs) is ∙ looks .scan s bs ∙ ap (λ b. pick b (scanSaid c bs) (no STATE 0)) (lt-ltb _ _ l) in
-    let skips : skippedBy (asciiRun (lent .now) s) bs ≡ n = ap (λ w. skippedBy (asciiRun w s) bs) is ∙ looks .scan-part s bs ∙ ap (λ b. pick b n 0) (lt-ltb _ _ l) in
+    let told : scan.said says ≡ scanSaid c bs =
+    q .2 ∙ ap (λ w. scannedBy (asciiRun w s) bs) is ∙ looks .scan s bs ∙ ap (λ b. pick b (scanSaid c bs) (no STATE 0)) (lt-ltb _ _ l) in
+    let skips : skippedBy (asciiRun (lent .now) s) bs ≡ n =
+    ap (λ w. skippedBy (asciiRun w s) bs) is ∙ looks .scan-part s bs ∙ ap (λ b. pick b n 0) (lt-ltb _ _ l) in
     let runs : c ≡ none → ⊥ = λ u. some (said-one says NoRun (told ∙ ap (λ r. scanSaid r bs) u ∙ none-said bs)) in (
       a,
       record {

@@ -7,22 +7,22 @@ use lib.ListN.{replicate, take, drop}
 use Rattle.refusal.specs.Said.{ok, no, ROOM, STATE, NOT-TABLE, ORDER}
 use Rattle.refusal.specs.Fixed.{NONE, tag}
 use Rattle.refusal.specs.Lists.{some, every, before}
-use Rattle.ascii_run.specs.Shape.{held}
-use Rattle.ascii_run.specs.Words.{orField, shortRun, readAt}
-use Rattle.ascii_run.specs.Scan.{stops, scanSaid}
-use Rattle.room_read.specs.Room.{recordIn, listedIn, pastLists, listedAt, stateAt, follow}
-use Rattle.room_read.specs.Search.{found, searched, given}
-use Rattle.modes.specs.Start.{modeAt, modeStart}
-use Rattle.modes.specs.Modes.{stateCount, numbers, modesUpTo, ofModes, hasCompiledModes}
-use Rattle.mode_flags.specs.Written.{wrote, refused}
-use Rattle.mode_flags.specs.Flags.{modeFlags}
-use Rattle.mode_counts.specs.Counts.{compiledOf, differences, descent, countsFor, countsWith, asked, modeStateCounts}
-use Rattle.targets.specs.Targets.{asciiRowAt, rowTarget, asciiTarget, charTarget, eofTarget}
-use Rattle.accepts.specs.Accept.{acceptOf}
-use Rattle.accepts.specs.Record as accepts
-use Rattle.continuations.specs.Continuation.{searchRow, charContinuation, eofContinuation}
-use Rattle.configs.specs.Configs as configs
-use Rattle.state_run.specs.StateRun.{runIn, runOf, asciiRun, scannedBy}
+use Rattle.run_shape.specs.Shape.{held}
+use Rattle.run_shape.specs.Words.{orField, shortRun, readAt}
+use Rattle.run_shape.specs.Scan.{stops, scanSaid}
+use Rattle.room_find.specs.Room.{recordIn, listedIn, pastLists, listedAt, stateAt, follow}
+use Rattle.room_find.specs.Search.{found, searched, given}
+use Rattle.look_modes.specs.Start.{modeAt, modeStart}
+use Rattle.look_modes.specs.Modes.{stateCount, numbers, modesUpTo, ofModes, hasCompiledModes}
+use Rattle.look_mode_lists.specs.Written.{wrote, refused}
+use Rattle.look_mode_lists.specs.Flags.{modeFlags}
+use Rattle.look_mode_lists.specs.Counts.{compiledOf, differences, descent, countsFor, countsWith, asked, modeStateCounts}
+use Rattle.look_targets.specs.Targets.{asciiRowAt, rowTarget, asciiTarget, charTarget, eofTarget}
+use Rattle.look_accepts.specs.Accept.{acceptOf}
+use Rattle.look_accepts.specs.Record as accepts
+use Rattle.look_continuations.specs.Continuation.{searchRow, charContinuation, eofContinuation}
+use Rattle.look_continuation_records.specs.Configs as configs
+use Rattle.look_runs.specs.StateRun.{runIn, runOf, asciiRun, scannedBy}
 
 -- header; tag and modes; states; runs; one ascii row; one wide row; one accept; escape rows; one continuation; places; zeros
 abbrev room : List ℕ
@@ -44,7 +44,8 @@ counted : (stateCount room ≡ ok (2 ∷ [])) × (hasCompiledModes room ≡ ok (
 unfolding stateCount ofModes modesUpTo numbers every some
 counted = (refl, refl, refl)
 
-listed : (modeFlags room 3 ≡ wrote (1 ∷ 0 ∷ 1 ∷ [])) × (modeFlags room 2 ≡ refused ROOM 0) × (modeStateCounts room 2 ≡ wrote (1 ∷ 1 ∷ [])) × (modeStateCounts room 1 ≡ refused ROOM 0)
+listed : (modeFlags room 3 ≡ wrote (1 ∷ 0 ∷ 1 ∷ [])) × (modeFlags room 2 ≡ refused ROOM 0) × (modeStateCounts room 2 ≡ wrote (1 ∷ 1 ∷ []))
+    × (modeStateCounts room 1 ≡ refused ROOM 0)
 unfolding stateCount asked countsWith countsFor ofModes modesUpTo numbers every compiledOf differences descent
 listed = (refl, refl, refl, refl)
 
@@ -55,11 +56,13 @@ descends = refl
 
 -- targets
 
-reached : (asciiTarget room 0 65 ≡ ok (0 ∷ [])) × (asciiTarget room 0 128 ≡ no STATE 0) × (asciiTarget room 2 65 ≡ no STATE 0) × (asciiTarget [] 2 128 ≡ no NOT-TABLE 0)
+reached : (asciiTarget room 0 65 ≡ ok (0 ∷ [])) × (asciiTarget room 0 128 ≡ no STATE 0) × (asciiTarget room 2 65 ≡ no STATE 0)
+    × (asciiTarget [] 2 128 ≡ no NOT-TABLE 0)
 unfolding follow stateAt recordIn rowTarget asciiRowAt
 reached = (refl, refl, refl, refl)
 
-searched-for : (charTarget room 0 65 ≡ ok (0 ∷ [])) × (charTarget room 0 199 ≡ ok (65535 ∷ [])) × (charTarget room 0 200 ≡ ok (1 ∷ [])) × (charTarget room 0 500 ≡ ok (65534 ∷ [])) × (charTarget room 0 NONE ≡ ok (65535 ∷ []))
+searched-for : (charTarget room 0 65 ≡ ok (0 ∷ [])) × (charTarget room 0 199 ≡ ok (65535 ∷ [])) × (charTarget room 0 200 ≡ ok (1 ∷ []))
+    × (charTarget room 0 500 ≡ ok (65534 ∷ [])) × (charTarget room 0 NONE ≡ ok (65535 ∷ []))
 unfolding follow stateAt recordIn rowTarget asciiRowAt listedAt pastLists listedIn given searched found
 searched-for = (refl, refl, refl, refl, refl)
 
@@ -69,7 +72,8 @@ ended = (refl, refl)
 
 -- accepts
 
-accepted : (acceptOf room 0 ≡ ok (NONE ∷ [])) × (acceptOf room 1 ≡ ok (0 ∷ [])) × (accepts.recordOf room 0 ≡ ok (7 ∷ 1 ∷ 1 ∷ [])) × (accepts.recordOf room NONE ≡ ok [])
+accepted : (acceptOf room 0 ≡ ok (NONE ∷ [])) × (acceptOf room 1 ≡ ok (0 ∷ [])) × (accepts.recordOf room 0 ≡ ok (7 ∷ 1 ∷ 1 ∷ []))
+    × (accepts.recordOf room NONE ≡ ok [])
 unfolding follow stateAt recordIn accepts.recordAt accepts.wholeTo listedAt pastLists listedIn
 accepted = (refl, refl, refl, refl)
 
@@ -79,20 +83,26 @@ actions = refl
 
 -- continuations
 
-continued : (charContinuation room 1 450 ≡ ok (0 ∷ [])) × (charContinuation room 1 501 ≡ ok (NONE ∷ [])) × (eofContinuation room 0 ≡ ok (NONE ∷ [])) × (eofContinuation room 1 ≡ ok (0 ∷ []))
+continued : (charContinuation room 1 450 ≡ ok (0 ∷ [])) × (charContinuation room 1 501 ≡ ok (NONE ∷ [])) × (eofContinuation room 0 ≡ ok (NONE ∷ []))
+    × (eofContinuation room 1 ≡ ok (0 ∷ []))
 unfolding follow stateAt recordIn searchRow listedAt pastLists listedIn given searched found
 continued = (refl, refl, refl, refl)
 
 recorded : (configs.recordOf room 0 ≡ ok (1 ∷ 1 ∷ [])) × (configs.recordOf room 1 ≡ ok [])
-unfolding follow configs.wholeAt configs.wholeFrom configs.wholeBehind configs.pastContexts configs.pastConfig configs.pastConfigs configs.ofWhole listedAt pastLists listedIn
+unfolding follow configs.wholeAt configs.wholeFrom configs.wholeBehind configs.pastContexts configs.pastConfig configs.pastConfigs configs.ofWhole
+    listedAt pastLists listedIn
 recorded = (refl, refl)
 
-kept : (take (configs.contextsLength room 0) (drop (configs.contextsFrom room 0) room) ≡ 0 ∷ 0 ∷ 5 ∷ []) × (take (configs.configsLength room 0) (drop (configs.configsFrom room 0) room) ≡ 1 ∷ NONE ∷ 0 ∷ 1 ∷ 1 ∷ 1 ∷ 21 ∷ 22 ∷ 23 ∷ [])
-unfolding follow configs.wholeAt configs.wholeFrom configs.wholeBehind configs.pastContexts configs.pastConfig configs.pastConfigs configs.ofWhole listedAt pastLists listedIn
+kept : (take (configs.contextsLength room 0) (drop (configs.contextsFrom room 0) room) ≡ 0 ∷ 0 ∷ 5 ∷ [])
+    × (take (configs.configsLength room 0) (drop (configs.configsFrom room 0) room) ≡ 1 ∷ NONE ∷ 0 ∷ 1 ∷ 1 ∷ 1 ∷ 21 ∷ 22 ∷ 23 ∷ [])
+unfolding follow configs.wholeAt configs.wholeFrom configs.wholeBehind configs.pastContexts configs.pastConfig configs.pastConfigs configs.ofWhole
+    listedAt pastLists listedIn
 kept = (refl, refl)
 
 -- runs: until 34, which passes a byte of 200
 
-scanned : (scannedBy (asciiRun room 1) (200 ∷ 65 ∷ 34 ∷ []) ≡ ok (2 ∷ 1 ∷ [])) × (scannedBy (asciiRun room 0) (200 ∷ 65 ∷ 34 ∷ []) ≡ ok (3 ∷ 0 ∷ [])) × (scannedBy (asciiRun room 2) [] ≡ no STATE 0)
+scanned : (scannedBy (asciiRun room 1) (200 ∷ 65 ∷ 34 ∷ []) ≡ ok (2 ∷ 1 ∷ []))
+    × (scannedBy (asciiRun room 0) (200 ∷ 65 ∷ 34 ∷ []) ≡ ok (3 ∷ 0 ∷ []))
+    × (scannedBy (asciiRun room 2) [] ≡ no STATE 0)
 unfolding follow stateAt recordIn asciiRun runOf listedAt pastLists listedIn runIn readAt shortRun orField held every some before stops scanSaid
 scanned = (refl, refl, refl)

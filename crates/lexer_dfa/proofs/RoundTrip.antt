@@ -12,21 +12,21 @@ use borrow.Author.Tests.{ltb-true, ltb-false, lt-ltb, le-ltb}
 use contract.Lifetimes.{Lfts}
 use denote.Ref.{RefT}
 use Rattle.refusal.specs.Said.{Said, ok, no, NOT-TABLE, ROOM}
-use Rattle.written.specs.Over.{zeros}
-use Rattle.codec.specs.declared.Decoded.{Decoded}
-use Rattle.codec.specs.declared.Decoded.the-variants.{Table, Refused}
-use Rattle.codec.specs.Decode.{decodeOf, roomOf}
-use Rattle.codec.specs.Decode as decoding
-use Rattle.judge.specs.Judge.{wordsPart, accepted, isTable}
-use Rattle.judge.proofs.Tables.{own-words}
-use Rattle.encode.specs.declared.Encoded.{Encoded}
-use Rattle.encode.specs.Encode.{said, encodeOf, outOf}
-use Rattle.table.specs.Table.{wordsOf}
-use Rattle.table.specs.Whole.{Fit}
-use Rattle.roundtrip.specs.Normal.{normal}
-use Rattle.roundtrip.specs.Trip.{Trip, Left}
-use Rattle.roundtrip.proofs.Normal.{normal-size}
-use Rattle.roundtrip.proofs.RoundTrip.{round-trip, left-held}
+use Rattle.buffer.specs.Over.{zeros}
+use Rattle.room_decode.specs.declared.Decoded.{Decoded}
+use Rattle.room_decode.specs.declared.Decoded.the-variants.{Table, Refused}
+use Rattle.room_decode.specs.Decode.{decodeOf, roomOf}
+use Rattle.room_decode.specs.Decode as decoding
+use Rattle.room_judge.specs.Judge.{wordsPart, accepted, isTable}
+use Rattle.room_judge.proofs.Tables.{own-words}
+use Rattle.room_encode.specs.declared.Encoded.{Encoded}
+use Rattle.room_encode.specs.Encode.{said, encodeOf, outOf}
+use Rattle.law_tables.specs.Table.{wordsOf}
+use Rattle.law_tables.specs.Whole.{Fit}
+use Rattle.law_round_trip.specs.Normal.{normal}
+use Rattle.law_round_trip.specs.Trip.{Trip, Left}
+use Rattle.law_round_trip.proofs.Normal.{normal-size}
+use Rattle.law_round_trip.proofs.RoundTrip.{round-trip, left-held}
 use Rattle.lexer_dfa.specs.Demands.{DecodeAnswers, EncodeAnswers, RoundTrip, Leaves, EncodedBy}
 
 -- There and back
@@ -178,8 +178,8 @@ module _ (d : List ℕ) (n : ℕ) where
 
 -- The call, by its own contract. As of the words of decode, that the room's numbers have 32 bits is a premise
 
--- "Encoding and coverage give NOT-TABLE exactly when the room isn't what decoding leaves for some accepted words; encoding gives ROOM next, when the output is shorter than
--- needed": and else it accepts, so that every room that it accepts comes from decoding
+-- "Encoding and coverage give NOT-TABLE exactly when the room isn't what decoding leaves for some accepted words; encoding gives ROOM next, when the output is
+-- shorter than needed": and else it accepts, so that every room that it accepts comes from decoding
 pub encode-answers : (room out : RefT (List ℕ)) → Fit (room .now) → (x : Encoded) (left : List ℕ) → EncodeAnswers room out x left →
     EncodedBy (room .now) (length (out .now)) (said x)
 encode-answers room out f x left a =

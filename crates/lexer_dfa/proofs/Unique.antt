@@ -1,49 +1,49 @@
 -- Each public call's contract determines its answer, and what it leaves in a slice that it is lent. For it is an equation for the answer, or for what
 -- the answer says, and no two answers say one thing; and one for the list in the slice. Assumes nothing.
 use mathlib.Core.Path.{refl, sym, ap, _∙_}
-use Rattle.ascii_range.proofs.none.Reads as none
-use Rattle.range_words.proofs.from_run.Reads as from-run
-use Rattle.range_pack.proofs.packed_words.Reads as packed-words
-use Rattle.range_scan.proofs.scan_scalar.Reads as scan-scalar
-use Rattle.self_loops.proofs.next_exit.Reads as next-exit
-use Rattle.self_loops.proofs.from_self_loops.Reads as from-self-loops
-use Rattle.range_class.proofs.class.Reads as class
-use Rattle.range_class.proofs.Classes.{said-one}
-use Rattle.byte_class.proofs.class_of_byte.Reads as class-of-byte
-use Rattle.byte_class.proofs.Arms.{byte-one}
-use Rattle.ascii_run.proofs.refuse.Reads as refuse
-use Rattle.ascii_run.proofs.serialized_words.Reads as serialized-words
-use Rattle.ascii_run.proofs.Answers.{given}
-use Rattle.run_read.proofs.read_serialized.Reads as read-serialized
-use Rattle.run_read.proofs.read_alone.Reads as read-alone
-use Rattle.run_read.proofs.short_answer.Reads as short-answer
-use Rattle.run_write.proofs.write_serialized.Reads as write-serialized
+use Rattle.run_ranges.proofs.none.Reads as none
+use Rattle.run_ranges.proofs.from_run.Reads as from-run
+use Rattle.run_ranges.proofs.packed_words.Reads as packed-words
+use Rattle.run_scan.proofs.scan_scalar.Reads as scan-scalar
+use Rattle.run_classify.proofs.next_exit.Reads as next-exit
+use Rattle.run_classify.proofs.from_self_loops.Reads as from-self-loops
+use Rattle.run_class.proofs.class.Reads as class
+use Rattle.run_class.proofs.Classes.{said-one}
+use Rattle.run_class.proofs.class_of_byte.Reads as class-of-byte
+use Rattle.run_class.proofs.Arms.{byte-one}
+use Rattle.run_shape.proofs.refuse.Reads as refuse
+use Rattle.run_shape.proofs.serialized_words.Reads as serialized-words
+use Rattle.run_shape.proofs.Answers.{given}
+use Rattle.run_words.proofs.read_serialized.Reads as read-serialized
+use Rattle.run_words.proofs.read_alone.Reads as read-alone
+use Rattle.run_words.proofs.short_answer.Reads as short-answer
+use Rattle.run_words.proofs.write_serialized.Reads as write-serialized
 use Rattle.run_classify.proofs.classify.Reads as classify
 use Rattle.run_scan.proofs.scan.Reads as scan
 use Rattle.run_scan.proofs.scan_length.Reads as scan-length
 use Rattle.run_scan.proofs.ScanSaid.{scanned-one}
-use Rattle.words.proofs.short.Reads as short
-use Rattle.words.proofs.field.Reads as field
-use Rattle.words.proofs.left_from.Reads as left-from
-use Rattle.simple_words.proofs.read_mode.Reads as read-mode
-use Rattle.simple_words.proofs.read_state.Reads as read-state
-use Rattle.run_words.proofs.read_run.Reads as read-run
-use Rattle.run_words.proofs.read_ascii_row.Reads as read-ascii-row
-use Rattle.listed_words.proofs.read_accept.Reads as read-accept
-use Rattle.listed_words.proofs.read_escape_row.Reads as read-escape-row
-use Rattle.listed_words.proofs.read_config.Reads as read-config
-use Rattle.wide_words.proofs.read_wide_row.Reads as read-wide-row
-use Rattle.continuation_words.proofs.read_continuation.Reads as read-continuation
-use Rattle.records.proofs.read_record.Reads as read-record
-use Rattle.records.proofs.read_section.Reads as read-section
-use Rattle.layout.proofs.find_sections.Reads as find-sections
-use Rattle.limits.proofs.find_within_limits.Reads as find-within-limits
-use Rattle.rules.proofs.word_at.Reads as word-at
-use Rattle.rules.proofs.word_past.Reads as word-past
-use Rattle.rules.proofs.good.Reads as good
-use Rattle.rules.proofs.none_or.Reads as none-or
-use Rattle.rules.proofs.present.Reads as present
-use Rattle.rules.proofs.plain.Reads as plain
+use Rattle.word_reader.proofs.short.Reads as short
+use Rattle.word_reader.proofs.field.Reads as field
+use Rattle.word_reader.proofs.left_from.Reads as left-from
+use Rattle.word_records.proofs.read_mode.Reads as read-mode
+use Rattle.word_records.proofs.read_state.Reads as read-state
+use Rattle.word_records.proofs.read_run.Reads as read-run
+use Rattle.word_records.proofs.read_ascii_row.Reads as read-ascii-row
+use Rattle.word_records.proofs.read_accept.Reads as read-accept
+use Rattle.word_records.proofs.read_escape_row.Reads as read-escape-row
+use Rattle.word_records.proofs.read_config.Reads as read-config
+use Rattle.word_records.proofs.read_wide_row.Reads as read-wide-row
+use Rattle.word_records.proofs.read_continuation.Reads as read-continuation
+use Rattle.word_sections.proofs.read_record.Reads as read-record
+use Rattle.word_sections.proofs.read_section.Reads as read-section
+use Rattle.word_layout.proofs.find_sections.Reads as find-sections
+use Rattle.word_layout.proofs.find_within_limits.Reads as find-within-limits
+use Rattle.rule_words.proofs.word_at.Reads as word-at
+use Rattle.rule_words.proofs.word_past.Reads as word-past
+use Rattle.rule_words.proofs.good.Reads as good
+use Rattle.rule_words.proofs.none_or.Reads as none-or
+use Rattle.rule_words.proofs.present.Reads as present
+use Rattle.rule_words.proofs.plain.Reads as plain
 use Rattle.rule_states.proofs.start_is_state.Reads as start-is-state
 use Rattle.rule_states.proofs.state_is_valid.Reads as state-is-valid
 use Rattle.rule_states.proofs.accept_is_plain.Reads as accept-is-plain
@@ -61,14 +61,14 @@ use Rattle.rule_walk.proofs.ascii_targets_are_good.Reads as ascii-targets-are-g
 use Rattle.rule_walk.proofs.wide_rows_are_searchable.Reads as wide-rows-are-searchable
 use Rattle.rule_walk.proofs.escape_rows_are_valid.Reads as escape-rows-are-valid
 use Rattle.rule_walk.proofs.continuation_contexts_are_valid.Reads as continuation-contexts-are-valid
-use Rattle.index_rules.proofs.first_broken.Reads as first-broken
-use Rattle.room.specs.Room.{roomFor}
-use Rattle.written.proofs.clear.Reads as clear
-use Rattle.room.proofs.fill.Reads as fill
-use Rattle.codec.proofs.decode.Reads as decode
-use Rattle.judge.proofs.table_in.Reads as table-in
-use Rattle.encode.proofs.encode.Reads as encode
-use Rattle.unique.specs.Unique.{Determines, DeterminesPart, DeterminesBoth}
+use Rattle.rule_first.proofs.first_broken.Reads as first-broken
+use Rattle.room_fill.specs.Room.{roomFor}
+use Rattle.buffer.proofs.clear.Reads as clear
+use Rattle.room_fill.proofs.fill.Reads as fill
+use Rattle.room_decode.proofs.decode.Reads as decode
+use Rattle.room_judge.proofs.table_in.Reads as table-in
+use Rattle.room_encode.proofs.encode.Reads as encode
+use Rattle.law_unique.specs.Unique.{Determines, DeterminesPart, DeterminesBoth}
 
 -- ascii_range
 

@@ -3,46 +3,46 @@ use Prim.Native.Nat.{ℕ}
 use mathlib.Core.Path.{_≡_, sym, _∙_}
 use mathlib.Core.List.{List}
 use denote.Ref.{RefT}
-use Rattle.room_read.specs.Part.{PartOf}
-use Rattle.room_read.proofs.record_in.Reads as record-in
-use Rattle.room_read.proofs.find_state.Reads as find-state
-use Rattle.room_read.proofs.Answers as answers
-use Rattle.room_lists.proofs.find_listed.Reads as find-listed
-use Rattle.row_search.proofs.search_row.Reads as search-row
-use Rattle.modes.proofs.mode_start.Reads as mode-start
-use Rattle.modes.proofs.state_count.Reads as state-count
-use Rattle.all_modes.proofs.find_modes.Reads as find-modes
-use Rattle.compiled_modes.proofs.has_compiled_modes.Reads as has-compiled-modes
-use Rattle.modes.proofs.Laws as modes
-use Rattle.mode_flags.proofs.compiled_mode_flags.Reads as compiled-mode-flags
-use Rattle.mode_flags.proofs.Lists as mode-lists
-use Rattle.mode_counts.proofs.mode_state_counts.Reads as mode-state-counts
-use Rattle.targets.proofs.ascii_target.Reads as ascii-target
-use Rattle.char_targets.proofs.char_target.Reads as char-target
-use Rattle.char_targets.proofs.eof_target.Reads as eof-target
-use Rattle.wide_rows.proofs.find_wide_row.Reads as find-wide-row
-use Rattle.accepts.proofs.accept.Reads as accept
-use Rattle.accept_records.proofs.accept_record.Reads as accept-record
-use Rattle.record_parts.proofs.accept_actions.Reads as accept-actions
-use Rattle.accept_records.proofs.accept_actions_span.Reads as accept-actions-span
-use Rattle.accepts.proofs.Laws as accepts
-use Rattle.continuations.proofs.char_continuation.Reads as char-continuation
-use Rattle.continuations.proofs.eof_continuation.Reads as eof-continuation
-use Rattle.continuation_records.proofs.continuation_record.Reads as continuation-record
-use Rattle.record_parts.proofs.continuation_contexts.Reads as continuation-contexts
-use Rattle.record_parts.proofs.continuation_configs.Reads as continuation-configs
-use Rattle.continuation_records.proofs.continuation_contexts_span.Reads as continuation-contexts-span
-use Rattle.continuation_records.proofs.continuation_configs_span.Reads as continuation-configs-span
-use Rattle.configs.proofs.find_whole.Reads as find-whole
-use Rattle.configs.proofs.Laws as configs
-use Rattle.coverage.proofs.coverage.Reads as coverage
-use Rattle.run_places.proofs.find_run.Reads as find-run
-use Rattle.state_run.proofs.ascii_run.Reads as ascii-run
-use Rattle.state_scan.proofs.scan_ascii_run.Reads as scan-ascii-run
-use Rattle.state_scan_length.proofs.scan_ascii_run_length.Reads as scan-ascii-run-length
-use Rattle.state_run.proofs.Laws as state-run
-use Rattle.ascii_run.proofs.Answers.{given}
-use Rattle.unique.specs.Unique.{Determines, DeterminesPart, DeterminesBoth}
+use Rattle.room_find.specs.Part.{PartOf}
+use Rattle.room_find.proofs.record_in.Reads as record-in
+use Rattle.room_find.proofs.find_state.Reads as find-state
+use Rattle.room_find.proofs.Answers as answers
+use Rattle.room_find.proofs.find_listed.Reads as find-listed
+use Rattle.look_row.proofs.search_row.Reads as search-row
+use Rattle.look_modes.proofs.mode_start.Reads as mode-start
+use Rattle.look_modes.proofs.state_count.Reads as state-count
+use Rattle.look_modes.proofs.find_modes.Reads as find-modes
+use Rattle.look_modes.proofs.has_compiled_modes.Reads as has-compiled-modes
+use Rattle.look_modes.proofs.StartLaws as modes
+use Rattle.look_mode_lists.proofs.compiled_mode_flags.Reads as compiled-mode-flags
+use Rattle.look_mode_lists.proofs.Lists as mode-lists
+use Rattle.look_mode_lists.proofs.mode_state_counts.Reads as mode-state-counts
+use Rattle.look_targets.proofs.ascii_target.Reads as ascii-target
+use Rattle.look_targets.proofs.char_target.Reads as char-target
+use Rattle.look_targets.proofs.eof_target.Reads as eof-target
+use Rattle.look_targets.proofs.find_wide_row.Reads as find-wide-row
+use Rattle.look_accepts.proofs.accept.Reads as accept
+use Rattle.look_accepts.proofs.accept_record.Reads as accept-record
+use Rattle.look_parts.proofs.accept_actions.Reads as accept-actions
+use Rattle.look_accepts.proofs.accept_actions_span.Reads as accept-actions-span
+use Rattle.look_accepts.proofs.AcceptLaws as accepts
+use Rattle.look_continuations.proofs.char_continuation.Reads as char-continuation
+use Rattle.look_continuations.proofs.eof_continuation.Reads as eof-continuation
+use Rattle.look_continuation_records.proofs.continuation_record.Reads as continuation-record
+use Rattle.look_parts.proofs.continuation_contexts.Reads as continuation-contexts
+use Rattle.look_parts.proofs.continuation_configs.Reads as continuation-configs
+use Rattle.look_continuation_records.proofs.continuation_contexts_span.Reads as continuation-contexts-span
+use Rattle.look_continuation_records.proofs.continuation_configs_span.Reads as continuation-configs-span
+use Rattle.look_continuation_records.proofs.find_whole.Reads as find-whole
+use Rattle.look_continuation_records.proofs.WholeLaws as configs
+use Rattle.room_coverage.proofs.coverage.Reads as coverage
+use Rattle.look_runs.proofs.find_run.Reads as find-run
+use Rattle.look_runs.proofs.ascii_run.Reads as ascii-run
+use Rattle.look_scan.proofs.scan_ascii_run.Reads as scan-ascii-run
+use Rattle.look_scan.proofs.scan_ascii_run_length.Reads as scan-ascii-run-length
+use Rattle.look_runs.proofs.Laws as state-run
+use Rattle.run_shape.proofs.Answers.{given}
+use Rattle.law_unique.specs.Unique.{Determines, DeterminesPart, DeterminesBoth}
 
 -- room_read
 

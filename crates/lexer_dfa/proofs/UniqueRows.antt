@@ -2,19 +2,19 @@
 use Prim.Native.Nat.{ℕ}
 use mathlib.Core.Path.{_≡_, refl, sym, ap₂, _∙_}
 use mathlib.Core.List.{List, [], _∷_}
-use Rattle.transitions.proofs.read_transitions.Reads as read-transitions
-use Rattle.interval_ends.proofs.read_intervals.Reads as read-intervals
-use Rattle.transitions.proofs.Records as transitions
-use Rattle.segments.proofs.char_segments.Reads as char-segments
-use Rattle.segments.proofs.Answers as segments
-use Rattle.masks.proofs.segment_mask_matrix.Reads as segment-mask-matrix
-use Rattle.distinct_masks.proofs.distinct_masks.Reads as distinct-masks
-use Rattle.masks.proofs.Answers as masks
-use Rattle.pools.proofs.refuse.Reads as refuse
-use Rattle.ascii_pool.proofs.intern_ascii.Reads as intern-ascii
-use Rattle.wide_pool.proofs.intern_wide.Reads as intern-wide
-use Rattle.pools.proofs.Answers as pools
-use Rattle.unique.specs.Unique.{Determines, DeterminesBoth, DeterminesAll}
+use Rattle.list_transitions.proofs.read_transitions.Reads as read-transitions
+use Rattle.list_intervals.proofs.read_intervals.Reads as read-intervals
+use Rattle.list_transitions.proofs.Records as transitions
+use Rattle.list_segments.proofs.char_segments.Reads as char-segments
+use Rattle.list_segments.proofs.Answers as segments
+use Rattle.list_masks.proofs.segment_mask_matrix.Reads as segment-mask-matrix
+use Rattle.list_distinct.proofs.distinct_masks.Reads as distinct-masks
+use Rattle.list_masks.proofs.Answers as masks
+use Rattle.pool_rows.proofs.refuse.Reads as refuse
+use Rattle.pool_ascii.proofs.intern_ascii.Reads as intern-ascii
+use Rattle.pool_wide.proofs.intern_wide.Reads as intern-wide
+use Rattle.pool_rows.proofs.Answers as pools
+use Rattle.law_unique.specs.Unique.{Determines, DeterminesBoth, DeterminesAll}
 
 -- the lists in one buffer, and in those behind it
 pub and : {x y : List ℕ} {l m : List (List ℕ)} → x ≡ y → l ≡ m → x ∷ l ≡ y ∷ m
@@ -42,8 +42,10 @@ segment-mask-matrix-unique κs a x y e f p q =
 -- .. and the distinct ones
 
 pub distinct-masks-unique : DeterminesAll (λ κs e. e .1 .0 .now ∷ e .1 .1 .0 .now ∷ e .1 .1 .1 .0 .now ∷ []) distinct-masks.Learnt
-distinct-masks-unique κs a x y e f p q =
-    (masks.said-one x y (p .says ∙ sym (q .says)), and (p .low-high ∙ sym (q .low-high)) (and (p .each ∙ sym (q .each)) (and (p .leaves ∙ sym (q .leaves)) refl)))
+distinct-masks-unique κs a x y e f p q = (
+  masks.said-one x y (p .says ∙ sym (q .says)),
+  and (p .low-high ∙ sym (q .low-high)) (and (p .each ∙ sym (q .each)) (and (p .leaves ∙ sym (q .leaves)) refl)),
+)
 
 -- pools: a refusal; and what is left, where the pool is the first that is lent
 

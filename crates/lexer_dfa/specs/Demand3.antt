@@ -1,5 +1,5 @@
--- DEMAND 3 (document 00), "Rows keep the algebra of sets", over the calls' own contracts: of the bytes that a call is given, and of the numbers that it leaves in
--- the buffers that it is lent. w is a list's bytes, p a point. Assumes nothing.
+-- DEMAND 3 (document 00), "Rows keep the algebra of sets", over the calls' own contracts: of the bytes that a call is given, and of the numbers that it leaves
+-- in the buffers that it is lent. w is a list's bytes, p a point. Assumes nothing.
 use Prim.Native.Nat.{ℕ, zero, suc, _+_, _*_, _-_, _/_, _%_, _^_, _≤_, _<_}
 use mathlib.Core.Path.{_≡_}
 use mathlib.Core.Bool.{Bool, true, _&&_}
@@ -10,22 +10,22 @@ use contract.Lifetimes.{Lfts}
 use denote.Ref.{RefT}
 use Rattle.refusal.specs.Lists.{pick}
 use Rattle.refusal.specs.Fixed.{NONE}
-use Rattle.room_read.specs.Search.{found, given}
-use Rattle.table.specs.Table.{Table}
-use Rattle.table.specs.Rules.{Searchable, rowOf}
-use Rattle.lookup_laws.specs.Looks.{stateOf, escapeOf, ofState, charTargetOf, charContinuationOf}
-use Rattle.transitions.specs.Transition.{Transition, points}
-use Rattle.transitions.specs.Read.{parse, isParsed, accepted}
-use Rattle.masks.specs.declared.Masks.{Masks}
-use Rattle.masks.specs.declared.Masks.the-variants.{Count}
-use Rattle.masks.specs.Masks.{bit, wordsFor, distinctOf}
-use Rattle.masks.proofs.segment_mask_matrix.Reads as matrix
-use Rattle.distinct_masks.proofs.distinct_masks.Reads as distinct
-use Rattle.row_laws.specs.Row.{Row, DEAD, Each, numbers}
-use Rattle.row_laws.specs.Demand.{heldBy, OneOf}
-use Rattle.rows.specs.declared.Rows.{Rows}
-use Rattle.rows.specs.declared.Rows.the-variants.{Built}
-use Rattle.rows.proofs.build_rows.Reads as build
+use Rattle.room_find.specs.Search.{found, given}
+use Rattle.law_tables.specs.Table.{Table}
+use Rattle.law_tables.specs.Rules.{Searchable, rowOf}
+use Rattle.law_lookups.specs.Looks.{stateOf, escapeOf, ofState, charTargetOf, charContinuationOf}
+use Rattle.list_transitions.specs.Transition.{Transition, points}
+use Rattle.list_transitions.specs.Read.{parse, isParsed, accepted}
+use Rattle.list_masks.specs.declared.Masks.{Masks}
+use Rattle.list_masks.specs.declared.Masks.the-variants.{Count}
+use Rattle.list_masks.specs.Masks.{bit, wordsFor, distinctOf}
+use Rattle.list_masks.proofs.segment_mask_matrix.Reads as matrix
+use Rattle.list_distinct.proofs.distinct_masks.Reads as distinct
+use Rattle.law_rows.specs.Row.{Row, DEAD, Each, numbers}
+use Rattle.law_rows.specs.Demand.{heldBy, OneOf}
+use Rattle.row_build.specs.declared.Rows.{Rows}
+use Rattle.row_build.specs.declared.Rows.the-variants.{Built}
+use Rattle.row_build.proofs.build_rows.Reads as build
 
 -- "accepted": every record of the list is read; these are its transitions
 abbrev pub Read : List ℕ → Type 0
@@ -121,8 +121,8 @@ pub record Dead (n m : ℕ) (l : RowsLeft) (p : ℕ) : Type 0 where
   pub target : targetAt l n p ≡ DEAD
   pub cont : contAt l m p ≡ NONE
 
--- the first n numbers of a buffer are a row as rules 6 and 8 want it: "Searchable: low at most high, each high below the next low", and each of its targets, or of its
--- continuations, is one that was given
+-- the first n numbers of a buffer are a row as rules 6 and 8 want it: "Searchable: low at most high, each high below the next low", and each of its targets, or
+-- of its continuations, is one that was given
 pub record Stands (buffer : List ℕ) (n : ℕ) (goals : List ℕ) : Type 0 where
   pub ranges : Row
   pub as-many : n ≡ 3 * length ranges
@@ -207,8 +207,8 @@ abbrev pub DistinctAnswers : (list segments masks out : RefT (List ℕ)) → Mas
 DistinctAnswers list segments masks out x d =
     (κs : Lfts 4) × (e : _) × distinct.Learnt κs (list, (segments, (masks, (out, tt)))) x e × (e .1 .1 .1 .0 .now ≡ d)
 
--- "the caller gives each a 16-bit target and a continuation": the n masks of k words that were told are those by which the row call was given its targets and its
--- continuations, number for number and so in one order
+-- "the caller gives each a 16-bit target and a continuation": the n masks of k words that were told are those by which the row call was given its targets and
+-- its continuations, number for number and so in one order
 pub record MasksAgree (n k : ℕ) (d : List ℕ) (targets conts : List ℕ) (l : RowsLeft) : Type 0 where
   pub a-target-each : length targets ≡ n
   pub a-continuation-each : length conts ≡ n

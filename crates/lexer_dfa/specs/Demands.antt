@@ -10,35 +10,35 @@ use contract.Lifetimes.{Lfts}
 use denote.Ref.{RefT}
 use Rattle.refusal.specs.Said.{Said, ok, no, NOT-TABLE, ROOM}
 use Rattle.refusal.specs.Lists.{some}
-use Rattle.written.specs.Over.{padded}
-use Rattle.ascii_range.specs.declared.AsciiRange.{AsciiRange}
-use Rattle.ascii_range.specs.Ranges.{loopsAt, exitsAt, inRanges, ordered}
-use Rattle.ascii_run.specs.declared.Run.{Run}
-use Rattle.ascii_run.specs.declared.RunAnswer.{RunAnswer}
-use Rattle.ascii_run.specs.declared.Scanned.{Scanned}
-use Rattle.ascii_run.specs.declared.Scanned.the-variants.{Skipped}
-use Rattle.ascii_run.specs.Shape.{Shape, none, any, until, ranges}
-use Rattle.state_run.specs.declared.StateScan.{StateScan}
-use Rattle.state_run.specs.declared.StateScan.the-variants as state
+use Rattle.buffer.specs.Over.{padded}
+use Rattle.run_ranges.specs.declared.AsciiRange.{AsciiRange}
+use Rattle.run_ranges.specs.Ranges.{loopsAt, exitsAt, inRanges, ordered}
+use Rattle.run_shape.specs.declared.Run.{Run}
+use Rattle.run_shape.specs.declared.RunAnswer.{RunAnswer}
+use Rattle.run_shape.specs.declared.Scanned.{Scanned}
+use Rattle.run_shape.specs.declared.Scanned.the-variants.{Skipped}
+use Rattle.run_shape.specs.Shape.{Shape, none, any, until, ranges}
+use Rattle.look_runs.specs.declared.StateScan.{StateScan}
+use Rattle.look_runs.specs.declared.StateScan.the-variants as state
 use Rattle.run_classify.proofs.classify.Reads as classify
 use Rattle.run_scan.proofs.scan.Reads as scan
 use Rattle.run_scan.proofs.scan_length.Reads as scan-length
-use Rattle.state_scan.proofs.scan_ascii_run.Reads as scan-ascii-run
-use Rattle.state_scan_length.proofs.scan_ascii_run_length.Reads as scan-ascii-run-length
-use Rattle.table.specs.Table.{Table, wordsOf, Fields}
-use Rattle.table.specs.Rules.{Rules}
-use Rattle.table.specs.Whole.{Fit}
-use Rattle.table.specs.Fronts.{Exactly}
-use Rattle.roundtrip.specs.Normal.{normal}
-use Rattle.codec.specs.declared.Decoded.{Decoded}
-use Rattle.codec.specs.Decode as decoding
-use Rattle.codec.proofs.decode.Reads as decode
-use Rattle.encode.specs.declared.Encoded.{Encoded}
-use Rattle.encode.specs.Encode as encoding
-use Rattle.encode.proofs.encode.Reads as encode
-use Rattle.room_read.specs.declared.Answer.{Answer}
-use Rattle.coverage.specs.OnTable.{coverageOn}
-use Rattle.coverage.proofs.coverage.Reads as coverage
+use Rattle.look_scan.proofs.scan_ascii_run.Reads as scan-ascii-run
+use Rattle.look_scan.proofs.scan_ascii_run_length.Reads as scan-ascii-run-length
+use Rattle.law_tables.specs.Table.{Table, wordsOf, Fields}
+use Rattle.law_tables.specs.Rules.{Rules}
+use Rattle.law_tables.specs.Whole.{Fit}
+use Rattle.law_tables.specs.Fronts.{Exactly}
+use Rattle.law_round_trip.specs.Normal.{normal}
+use Rattle.room_decode.specs.declared.Decoded.{Decoded}
+use Rattle.room_decode.specs.Decode as decoding
+use Rattle.room_decode.proofs.decode.Reads as decode
+use Rattle.room_encode.specs.declared.Encoded.{Encoded}
+use Rattle.room_encode.specs.Encode as encoding
+use Rattle.room_encode.proofs.encode.Reads as encode
+use Rattle.room_find.specs.declared.Answer.{Answer}
+use Rattle.room_coverage.specs.OnTable.{coverageOn}
+use Rattle.room_coverage.proofs.coverage.Reads as coverage
 
 -- Demand 2: "Given its room, decoding accepts the lists of up to 8,192 words that meet the layout and the nine index rules, and no others."
 
@@ -83,8 +83,8 @@ pub record RoundTrip (w : List ℕ) (n : ℕ) (x : Decoded) (d : List ℕ) : Typ
   pub again : (words room : RefT (List ℕ)) → words .now ≡ made → length (room .now) ≡ n → (y : Decoded) (left : List ℕ) → DecodeAnswers words room y left →
       (y ≡ x) × (left ≡ d)
 
--- Document 01: "Encoding and coverage give NOT-TABLE exactly when the room isn't what decoding leaves for some accepted words; encoding gives ROOM next, when the
--- output is shorter than needed."
+-- Document 01: "Encoding and coverage give NOT-TABLE exactly when the room isn't what decoding leaves for some accepted words; encoding gives ROOM next, when
+-- the output is shorter than needed."
 
 -- d is what decoding leaves for the accepted words w: lent a room of as many numbers, decode may answer w with a table, by its own contract, and leave d
 pub record Leaves (w d : List ℕ) : Type 0 where
@@ -169,7 +169,8 @@ StateScanAnswers room state input x = (κs : Lfts 2) × (e : _) × scan-ascii-ru
 abbrev pub StateScanLengthAnswers : (room : RefT (List ℕ)) (state : ℕ) (input : RefT (List ℕ)) → StateScan → Type 0
 StateScanLengthAnswers room state input x = (κs : Lfts 2) × (e : _) × scan-ascii-run-length.Learnt κs (room, (state, (input, tt))) x e
 
--- Document 01: "symbols not looping on the state are exits. 0 exits give any; 1 to 3 give until, ascending; otherwise the maximal looping ranges if 1 to 4, else none."
+-- Document 01: "symbols not looping on the state are exits. 0 exits give any; 1 to 3 give until, ascending;
+-- otherwise the maximal looping ranges if 1 to 4, else none."
 
 -- the exits of a row: exactly its symbols whose target is not the state, each above the one before
 pub record Exits (state : ℕ) (row es : List ℕ) : Type 0 where

@@ -5,9 +5,9 @@ use mathlib.Core.Path.{_≡_}
 use mathlib.Core.List.{List}
 use lib.ListN.{length}
 use Rattle.refusal.specs.Said.{Said, no, SHORT, TAG, FIELD, LIMIT, LEFT, INDEX, ROOM}
-use Rattle.table.specs.Table.{Table, wordsOf, Fields}
-use Rattle.table.specs.Rules.{FirstBroken}
-use Rattle.table.specs.Fronts.{EndsInside, Differs, Forbids, Opens, Exactly}
+use Rattle.law_tables.specs.Table.{Table, wordsOf, Fields}
+use Rattle.law_tables.specs.Rules.{FirstBroken}
+use Rattle.law_tables.specs.Fronts.{EndsInside, Differs, Forbids, Opens, Exactly}
 use Rattle.lexer_dfa.specs.Demands.{From}
 
 -- "Decoding: ROOM (table room under 16,384 numbers), LIMIT, then words in order": words are read into a room of n numbers where neither is given

@@ -6,25 +6,25 @@ use lib.ListN.{take, replicate}
 use Rattle.refusal.specs.Said.{Said, ok, no}
 use Rattle.refusal.specs.Fixed.{tag, NONE}
 use Rattle.refusal.specs.Lists.{pick}
-use Rattle.ascii_range.specs.declared.AsciiRange.{AsciiRange}
-use Rattle.ascii_range.specs.Ranges.{range, inRanges}
-use Rattle.byte_class.specs.Byte.{upFrom}
-use Rattle.ascii_run.specs.declared.RunWords.{RunWords}
-use Rattle.ascii_run.specs.Shape.{Got, run, refused, gotSaid, shape}
-use Rattle.ascii_run.specs.Classify.{classified}
-use Rattle.ascii_run.specs.Words.{wordsOf}
-use Rattle.ascii_run.specs.Scan.{scanSaid}
-use Rattle.written.specs.Over.{zeros}
-use Rattle.codec.specs.Decode as codec
-use Rattle.transitions.specs.Read as of-list
-use Rattle.transitions.specs.Read.{Parsed, parse}
-use Rattle.segments.specs.Answer as of-segments
-use Rattle.segments.specs.Answer.{parseFor, segmentsIn}
-use Rattle.masks.specs.Masks.{matrix}
-use Rattle.masks.specs.Answer as of-masks
-use Rattle.masks.specs.Answer.{parseMasks, masksIn}
-use Rattle.rows.specs.Answer as of-rows
-use Rattle.rows.specs.Answer.{Lent, parseRows, asciiIn, wideIn}
+use Rattle.run_ranges.specs.declared.AsciiRange.{AsciiRange}
+use Rattle.run_ranges.specs.Ranges.{range, inRanges}
+use Rattle.run_class.specs.Byte.{upFrom}
+use Rattle.run_shape.specs.declared.RunWords.{RunWords}
+use Rattle.run_shape.specs.Shape.{Got, run, refused, gotSaid, shape}
+use Rattle.run_shape.specs.Classify.{classified}
+use Rattle.run_shape.specs.Words.{wordsOf}
+use Rattle.run_shape.specs.Scan.{scanSaid}
+use Rattle.buffer.specs.Over.{zeros}
+use Rattle.room_decode.specs.Decode as codec
+use Rattle.list_transitions.specs.Read as of-list
+use Rattle.list_transitions.specs.Read.{Parsed, parse}
+use Rattle.list_segments.specs.Answer as of-segments
+use Rattle.list_segments.specs.Answer.{parseFor, segmentsIn}
+use Rattle.list_masks.specs.Masks.{matrix}
+use Rattle.list_masks.specs.Answer as of-masks
+use Rattle.list_masks.specs.Answer.{parseMasks, masksIn}
+use Rattle.row_build.specs.Answer as of-rows
+use Rattle.row_build.specs.Answer.{Lent, parseRows, asciiIn, wideIn}
 
 -- a call, and what it is given
 pub data Call : Type 0 where

@@ -6,8 +6,8 @@ use mathlib.Core.Path.{_≡_, refl, sym, ap}
 use mathlib.Core.List.{List, [], _∷_}
 use lib.ListN.{length, take}
 use lib.Seq.{length-take-le}
-use Rattle.written.specs.Over.{Put, over, lay}
-use Rattle.written.proofs.Going.{put-size}
+use Rattle.buffer.specs.Over.{Put, over, lay}
+use Rattle.buffer.proofs.Going.{put-size}
 
 -- a list over the front of another is its front
 over-front : (xs d : List ℕ) → length xs ≤ length d → take (length xs) (over xs d) ≡ xs

@@ -6,12 +6,12 @@ use mathlib.Core.List.{List}
 use borrow.Author.Needs.{needs}
 use borrow.Author.Tests.{lt-ltb, le-ltb}
 use lib.ListN.{length, take}
-use Rattle.written.specs.Over.{zeros}
+use Rattle.buffer.specs.Over.{zeros}
 use Rattle.refusal.specs.Said.{SHORT, LIMIT}
 use Rattle.replay_io.specs.Bytes.{PutWhole}
 use Rattle.replay_io.proofs.Putting.{numbers-many}
-use Rattle.codec.specs.declared.Decoded.{Decoded}
-use Rattle.codec.specs.Decode.{decodeOf, roomOf}
+use Rattle.room_decode.specs.declared.Decoded.{Decoded}
+use Rattle.room_decode.specs.Decode.{decodeOf, roomOf}
 use Rattle.program_io.proofs.Front.{front}
 use Rattle.program_io.specs.Bytes.{wordsOf, refused, readOf, roomRead}
 

@@ -6,10 +6,10 @@ use lib.ListN.{length}
 use lib.Dec.{ltb}
 use Rattle.refusal.specs.Said.{SHORT, LIMIT}
 use Rattle.refusal.specs.Lists.{pick}
-use Rattle.codec.specs.declared.Decoded.{Decoded}
-use Rattle.codec.specs.declared.Decoded.the-variants.{Refused}
-use Rattle.codec.specs.Decode.{decodeOf, roomOf}
-use Rattle.written.specs.Over.{zeros}
+use Rattle.room_decode.specs.declared.Decoded.{Decoded}
+use Rattle.room_decode.specs.declared.Decoded.the-variants.{Refused}
+use Rattle.room_decode.specs.Decode.{decodeOf, roomOf}
+use Rattle.buffer.specs.Over.{zeros}
 use Rattle.replay_io.specs.Bytes.{numbers}
 
 -- the whole words of bytes, the least byte first

@@ -2,12 +2,12 @@
 ghost use mathlib.Core.Path.{_≡_};
 ghost use lib.ListN.{length};
 ghost use Rattle.program_io.specs.Bytes.{refused, readOf, roomRead};
-use codec::Decoded;
 use refusal::LIMIT;
 use refusal::MAX_WORDS;
 use refusal::Refusal;
 use refusal::SHORT;
 use replay_io::read;
+use room_decode::Decoded;
 
 fn refused(number: u32, place: usize) -> Decoded
     ensures { λ r. ⌜ r ≡ refused number place ⌝ }
@@ -22,14 +22,14 @@ pub fn read_table(bytes: &[u8], room: &mut [u32]) -> Decoded
 {
     let whole = bytes.len() / 4;
     if MAX_WORDS < whole {
-        written::clear(room);
+        buffer::clear(room);
         return refused(LIMIT, MAX_WORDS);
     }
     if 0 < bytes.len() % 4 {
-        written::clear(room);
+        buffer::clear(room);
         return refused(SHORT, whole);
     }
     let mut words = [0u32; MAX_WORDS];
     let n = read::put_words(bytes, &mut words);
-    codec::decode(&words[..n], room)
+    room_decode::decode(&words[..n], room)
 }

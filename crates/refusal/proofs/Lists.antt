@@ -55,7 +55,8 @@ module _ (p : ℕ → Bool) where
   pub halts-by : (xs : List ℕ) (i : ℕ) {n : ℕ} {t : Bool} → i < length xs → t ≡ p (getD xs i 0) → t ≡ true → i + before p (drop i xs) ≡ n → i ≡ n
   halts-by xs i h e f a = halts xs i h (sym e ∙ f) a
 
-  pub passes-by : (xs : List ℕ) (i : ℕ) {n : ℕ} {t : Bool} → i < length xs → t ≡ p (getD xs i 0) → t ≡ false → i + before p (drop i xs) ≡ n → i + 1 + before p (drop (i + 1) xs) ≡ n
+  pub passes-by : (xs : List ℕ) (i : ℕ) {n : ℕ} {t : Bool} → i < length xs → t ≡ p (getD xs i 0) → t ≡ false → i + before p (drop i xs) ≡ n
+      → i + 1 + before p (drop (i + 1) xs) ≡ n
   passes-by xs i h e f a = passes xs i h (sym e ∙ f) a
 
   -- where a search ends, the next one begins at once
@@ -100,7 +101,8 @@ module _ (p : ℕ → Bool) where
   before-skip zero xs h = omega arith
   before-skip (suc n) [] h = absurd (omega arith)
   before-skip (suc n) (x ∷ xs) h = cases (p x) (before-skip n xs) h where
-    cases : (t : Bool) → (n ≤ before p xs → n + before p (drop n xs) ≡ before p xs) → suc n ≤ pick t zero (suc (before p xs)) → suc n + before p (drop n xs) ≡ pick t zero (suc (before p xs))
+    cases : (t : Bool) → (n ≤ before p xs → n + before p (drop n xs) ≡ before p xs) → suc n ≤ pick t zero (suc (before p xs))
+        → suc n + before p (drop n xs) ≡ pick t zero (suc (before p xs))
     cases true r k = absurd (omega arith)
     cases false r k = omega (arith, r (omega arith))
 
@@ -110,7 +112,8 @@ module _ (p : ℕ → Bool) (xs : List ℕ) where
   pub least-begins : {m : ℕ} → length xs ≡ m → min m (0 + before p xs) ≡ before p xs
   least-begins l = omega (arith, before-≤ p xs)
 
-  pub least-goes : (k : ℕ) {f g e m n : ℕ} {t : Bool} → k < length xs → t ≡ p (getD xs k 0) → e ≡ pick t k m → g ≡ min f e → f ≤ m → min f (k + before p (drop k xs)) ≡ n → min g (k + 1 + before p (drop (k + 1) xs)) ≡ n
+  pub least-goes : (k : ℕ) {f g e m n : ℕ} {t : Bool} → k < length xs → t ≡ p (getD xs k 0) → e ≡ pick t k m → g ≡ min f e → f ≤ m
+      → min f (k + before p (drop k xs)) ≡ n → min g (k + 1 + before p (drop (k + 1) xs)) ≡ n
   least-goes k {f} {g} {e} {m} {n} {t} h i j l u a = cases t i j where
     cases : (t : Bool) → t ≡ p (getD xs k 0) → e ≡ pick t k m → min g (k + 1 + before p (drop (k + 1) xs)) ≡ n
     cases true i j = omega (arith, before-stop p xs k h (sym i))
@@ -135,17 +138,20 @@ module _ (p : ℕ → Bool) (xs : List ℕ) (at : ℕ) where
   pub part-halts : (m : ℕ) {r n : ℕ} → r ≡ before p (take (at + m - at) (drop at xs)) → r < m → at + before p (drop at xs) ≡ n → at + r ≡ n
   part-halts m e h a = omega (arith, part m)
 
-  pub part-passes : (m : ℕ) {r n : ℕ} → r ≡ before p (take (at + m - at) (drop at xs)) → m ≤ r → at + before p (drop at xs) ≡ n → at + m + before p (drop (at + m) xs) ≡ n
+  pub part-passes : (m : ℕ) {r n : ℕ} → r ≡ before p (take (at + m - at) (drop at xs)) → m ≤ r → at + before p (drop at xs) ≡ n
+      → at + m + before p (drop (at + m) xs) ≡ n
   part-passes m e h a = rw (← drop-drop m at xs) (omega (arith, part m, before-skip p m (drop at xs) (omega (arith, part m))))
 
   -- the part up to the end can begin before the place that the search has come to
-  pub part-ends : (last : ℕ) {r : ℕ} → r ≡ before p (take (length xs - last) (drop last xs)) → last ≤ at → at + before p (drop at xs) ≡ before p xs → last + r ≡ before p xs
+  pub part-ends : (last : ℕ) {r : ℕ} → r ≡ before p (take (length xs - last) (drop last xs)) → last ≤ at → at + before p (drop at xs) ≡ before p xs
+      → last + r ≡ before p xs
   part-ends last e h a =
       let rest : take (length xs - last) (drop last xs) ≡ drop last xs = take-all (length xs - last) (drop last xs) (rw length-drop (omega arith)) in
       omega (arith, rw rest at e, before-skip p last xs (omega arith))
 
 -- what is made of a list whose places are counted from k, where an element at which the test fails makes nothing: the search may come first
-pub search-first : {A : Type 0} (p : ℕ → Bool) (f : ℕ → List ℕ → A) → ((k : ℕ) → f k [] ≡ f 0 []) → ((k x : ℕ) (xs : List ℕ) → p x ≡ false → f k (x ∷ xs) ≡ f (suc k) xs) →
+pub search-first : {A : Type 0} (p : ℕ → Bool) (f : ℕ → List ℕ → A) → ((k : ℕ) → f k [] ≡ f 0 []) →
+    ((k x : ℕ) (xs : List ℕ) → p x ≡ false → f k (x ∷ xs) ≡ f (suc k) xs) →
     (k n : ℕ) (xs : List ℕ) → n ≡ before p xs → f k xs ≡ f (k + n) (drop n xs)
 search-first p f z s k n [] h = rw drop-nil (z k ∙ sym (z (k + n)))
 search-first p f z s k n (x ∷ xs) h = cases (p x) refl (search-first p f z s (suc k) (before p xs) xs refl) where

@@ -8,12 +8,12 @@
 //
 // It prints how many records it replayed and how many of our answers differ, and how many bytes stand behind the last whole record, which must be none.
 use libc::STDIN_FILENO;
-use opening::Opening;
+use look_row::WideRange;
 use replay_io::read;
 use replay_io::tally::print;
-use wide_range::WideRange;
+use word_serialized::Opening;
 ghost use mathlib.Core.Path.{_≡_};
-ghost use Rattle.wide_range.specs.Ranges.{targetIn};
+ghost use Rattle.look_row.specs.Ranges.{targetIn};
 
 const RECORD: usize = 46;
 
@@ -21,7 +21,7 @@ const RECORD: usize = 46;
 fn target_in(row: [WideRange; 4], symbol: u32) -> u16
     ensures { λ r. ⌜ r ≡ targetIn row symbol ⌝ }
 {
-    wide_range::wide_target(&row, symbol)
+    look_row::wide_target(&row, symbol)
 }
 
 fn range_at(s: &[u8]) -> WideRange {
@@ -112,7 +112,7 @@ fn print_falling() {
 
 // The refusal, 0 for none, and then the modes or the place.
 fn print_opening(words: &[u32]) {
-    match opening::read_opening(words) {
+    match word_serialized::read_opening(words) {
         Opening::Modes(n) => print(0, b" refuses: modes ", n as usize, b"\n"),
         Opening::Refused(r) => print(r.number as usize, b" refuses: at ", r.place, b"\n"),
     }

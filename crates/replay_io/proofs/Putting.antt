@@ -6,8 +6,8 @@ use mathlib.Core.List.{List, _∷_}
 use borrow.Author.Needs.{needs}
 use lib.ListN.{length, drop, set}
 use lib.Seq.{drop-drop}
-use Rattle.written.specs.Over.{Put}
-use Rattle.written.proofs.Going.{Going, going-start, going-done, going-place, going-put}
+use Rattle.buffer.specs.Over.{Put}
+use Rattle.buffer.proofs.Going.{Going, going-start, going-done, going-place, going-put}
 use Rattle.replay_io.specs.Bytes.{number, numbers}
 use Rattle.replay_io.proofs.Reading.{part-many}
 

@@ -16,7 +16,7 @@ use Rattle.replay_io.proofs.check.of_words.Reads as of-words
 use Rattle.replay_io.proofs.check.of_masks.Reads as of-masks
 use Rattle.replay_io.proofs.check.short.Reads as short
 use Rattle.replay_io.proofs.tally.count.Reads as count
-use Rattle.unique.specs.Unique.{Determines, DeterminesPart, DeterminesBoth}
+use Rattle.law_unique.specs.Unique.{Determines, DeterminesPart, DeterminesBoth}
 
 pub byte-unique : Determines byte.Learnt
 byte-unique κs a x y e f p q = p ∙ sym q

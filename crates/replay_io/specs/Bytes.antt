@@ -4,7 +4,7 @@ use mathlib.Core.Path.{_≡_}
 use mathlib.Core.List.{List, [], _∷_}
 use lib.ListN.{length, getD, take, drop}
 use denote.Ref.{RefT}
-use Rattle.written.specs.Over.{Put}
+use Rattle.buffer.specs.Over.{Put}
 
 -- the number of the first k bytes, the least first; past the end every byte is 0
 unfoldable pub number : ℕ → List ℕ → ℕ

@@ -1,10 +1,10 @@
 // The records about what is written into an output: how many numbers, and a check over all of the output.
-use encode::Encoded;
-use mode_flags::Listed;
+use look_mode_lists::Listed;
 use refusal::MAX_WORDS;
 use replay_io::check;
 use replay_io::read;
 use replay_io::tally::Replayed;
+use room_encode::Encoded;
 
 // A refusal is a length that no output has.
 const REFUSED: usize = 65535;
@@ -25,9 +25,9 @@ fn encoded(answer: Encoded) -> usize {
 
 fn write(room: &[u32], kind: u8, out: &mut [u32]) -> usize {
     match kind {
-        11 => listed(mode_flags::compiled_mode_flags(room, out)),
-        12 => listed(mode_counts::mode_state_counts(room, out)),
-        _ => encoded(encode::encode(room, out)),
+        11 => listed(look_mode_lists::compiled_mode_flags(room, out)),
+        12 => listed(look_mode_lists::mode_state_counts(room, out)),
+        _ => encoded(room_encode::encode(room, out)),
     }
 }
 

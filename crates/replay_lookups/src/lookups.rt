@@ -1,10 +1,10 @@
 // The records whose answer is a number, and those of a scan.
-use modes::Start;
-use modes::StateCount;
+use look_modes::Start;
+use look_modes::StateCount;
+use look_runs::StateScan;
 use replay_io::read;
 use replay_io::tally::Replayed;
-use room_read::Answer;
-use state_run::StateScan;
+use room_find::Answer;
 
 // The number of a record for no start, accept or continuation.
 const NONE: u32 = 4294967295;
@@ -39,15 +39,15 @@ fn told(answer: Answer) -> u32 {
 // What kinds 1 to 9 answer.
 fn looked_up(room: &[u32], kind: u8, state: u16, symbol: u32, ascii: u8) -> u32 {
     match kind {
-        1 => start(modes::mode_start(room, symbol)),
-        2 => count(modes::state_count(room)),
-        3 => told(accepts::accept(room, state)),
-        4 => told(targets::ascii_target(room, state, ascii)),
-        5 => told(char_targets::char_target(room, state, symbol)),
-        6 => told(char_targets::eof_target(room, state)),
-        7 => told(continuations::char_continuation(room, state, symbol)),
-        8 => told(continuations::eof_continuation(room, state)),
-        _ => told(coverage::coverage(room, state)),
+        1 => start(look_modes::mode_start(room, symbol)),
+        2 => count(look_modes::state_count(room)),
+        3 => told(look_accepts::accept(room, state)),
+        4 => told(look_targets::ascii_target(room, state, ascii)),
+        5 => told(look_targets::char_target(room, state, symbol)),
+        6 => told(look_targets::eof_target(room, state)),
+        7 => told(look_continuations::char_continuation(room, state, symbol)),
+        8 => told(look_continuations::eof_continuation(room, state)),
+        _ => told(room_coverage::coverage(room, state)),
     }
 }
 
@@ -86,8 +86,8 @@ pub(crate) fn replay_scan(room: &[u32], record: &[u8]) -> Replayed {
     let state = read::half(record, 1);
     let n = read::size(record, 3);
     let input = read::part(record, 5, n);
-    let part = state_scan::scan_ascii_run(room, state, input);
-    let scan = state_scan_length::scan_ascii_run_length(room, state, input);
+    let part = look_scan::scan_ascii_run(room, state, input);
+    let scan = look_scan::scan_ascii_run_length(room, state, input);
     Replayed {
         more: 8 + n,
         same: same_scan(scan, part.len(), read::after(record, 5 + n)),

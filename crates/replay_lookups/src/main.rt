@@ -22,12 +22,12 @@
 mod lists;
 mod lookups;
 
-use codec::Decoded;
 use libc::STDIN_FILENO;
 use refusal::ROOM_NUMBERS;
 use replay_io::read;
 use replay_io::tally;
 use replay_io::tally::Replayed;
+use room_decode::Decoded;
 
 // The record at the front of what is left. One of no kind is longer than any sample.
 fn replay_record(room: &[u32], rest: &[u8]) -> Replayed {

@@ -1,5 +1,5 @@
 // The records about a row that is interned: a pool in which rows stand, and a row.
-use pools::Interned;
+use pool_rows::Interned;
 use replay_io::check;
 use replay_io::read;
 use replay_io::tally::Replayed;
@@ -20,7 +20,7 @@ pub(crate) fn replay_ascii(record: &[u8]) -> Replayed {
     let mut row = [0u16; 128];
     read::put_halves(read::after(record, 3), &mut pool);
     read::put_halves(read::after(record, 771), &mut row);
-    let answer = ascii_pool::intern_ascii(&mut pool, read::size(record, 1), &row);
+    let answer = pool_ascii::intern_ascii(&mut pool, read::size(record, 1), &row);
     let sums = check::of_halves(check::NONE, &pool).sums;
     Replayed {
         more: 1036,
@@ -34,7 +34,7 @@ pub(crate) fn replay_wide(record: &[u8]) -> Replayed {
     let mut row = [0u32; 6];
     read::put_words(read::after(record, 3), &mut pool);
     read::put_words(read::after(record, 131), &mut row);
-    let answer = wide_pool::intern_wide(&mut pool, read::size(record, 1), &row);
+    let answer = pool_wide::intern_wide(&mut pool, read::size(record, 1), &row);
     let sums = check::of_words(check::NONE, &pool).sums;
     Replayed {
         more: 164,

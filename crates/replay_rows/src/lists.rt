@@ -1,12 +1,12 @@
 // The records about a list of transitions. No number of a buffer is 0 before a call, so that one which is left alone changes the check.
 // No record is of a refusal.
-use masks::Masks;
+use list_masks::Masks;
+use list_segments::Segments;
+use list_transitions::Transitions;
 use replay_io::check;
 use replay_io::read;
 use replay_io::tally::Replayed;
-use rows::Rows;
-use segments::Segments;
-use transitions::Transitions;
+use row_build::Rows;
 
 // Two numbers that a call answered, and the sums over its buffers.
 fn same(first: usize, second: usize, sums: u64, recorded: &[u8]) -> bool {
@@ -17,7 +17,7 @@ fn same(first: usize, second: usize, sums: u64, recorded: &[u8]) -> bool {
 
 fn same_intervals(list: &[u8], recorded: &[u8]) -> bool {
     let mut out = [1u32; 2048];
-    let answer = interval_ends::read_intervals(list, &mut out);
+    let answer = list_intervals::read_intervals(list, &mut out);
     let sums = check::of_words(check::NONE, &out).sums;
     match answer {
         Transitions::Read { count, intervals } => same(count, intervals, sums, recorded),
@@ -27,7 +27,7 @@ fn same_intervals(list: &[u8], recorded: &[u8]) -> bool {
 
 fn same_segments(list: &[u8], recorded: &[u8]) -> bool {
     let mut out = [1u32; 4096];
-    let answer = segments::char_segments(list, &mut out);
+    let answer = list_segments::char_segments(list, &mut out);
     let sums = check::of_words(check::NONE, &out).sums;
     match answer {
         Segments::Count(n) => same(n, 0, sums, recorded),
@@ -52,7 +52,7 @@ fn same_masks(answer: Masks, out: &[u64], recorded: &[u8]) -> bool {
 fn same_matrix(list: &[u8], recorded: &[u8]) -> bool {
     let mut segments = [1u32; 4096];
     let mut out = [1u64; 8192];
-    let answer = masks::segment_mask_matrix(list, &mut segments, &mut out);
+    let answer = list_masks::segment_mask_matrix(list, &mut segments, &mut out);
     same_masks(answer, &out, recorded)
 }
 
@@ -60,7 +60,7 @@ fn same_distinct(list: &[u8], recorded: &[u8]) -> bool {
     let mut segments = [1u32; 4096];
     let mut masks = [1u64; 8192];
     let mut out = [1u64; 8192];
-    let answer = distinct_masks::distinct_masks(list, &mut segments, &mut masks, &mut out);
+    let answer = list_distinct::distinct_masks(list, &mut segments, &mut masks, &mut out);
     same_masks(answer, &out, recorded)
 }
 
@@ -86,7 +86,7 @@ fn same_with(
     let mut ascii = [1u16; 128];
     let mut wide = [1u32; 6144];
     let mut escape = [1u32; 6144];
-    let rows = rows::build_rows(
+    let rows = row_build::build_rows(
         list,
         targets,
         continuations,

@@ -7,10 +7,10 @@ use mathlib.Core.Bool.{Bool, true, false, _&&_, _||_}
 use lib.ListN.{length, getD}
 use lib.Dec.{ltb, leb, eqb}
 use borrow.Author.Needs.{needs}
-use Rattle.words.specs.Records.{configAt}
-use Rattle.rules.specs.Rules.{passing, every, everyIn, walk, refersBelow, below, configGood, continuationWith, continuationGood}
-use Rattle.rules.specs.Flags.{plain, configPlain, continuationPlain}
-use Rattle.rules.proofs.Laws.{past-end, section-passes, section-past}
+use Rattle.word_reader.specs.Records.{configAt}
+use Rattle.rule_words.specs.Rules.{passing, every, everyIn, walk, refersBelow, below, configGood, continuationWith, continuationGood}
+use Rattle.rule_words.specs.Flags.{plain, configPlain, continuationPlain}
+use Rattle.rule_words.proofs.Laws.{past-end, section-passes, section-past}
 use Rattle.rule_contexts.specs.declared.Asked.{Asked}
 use Rattle.rule_contexts.specs.declared.Asked.the-variants.{Context, Flags}
 use Rattle.rule_contexts.specs.Asked.{configPasses}

@@ -2,8 +2,8 @@
 use Prim.Native.Nat.{ℕ}
 use mathlib.Core.List.{List}
 use mathlib.Core.Bool.{Bool}
-use Rattle.rules.specs.Rules.{configGood}
-use Rattle.rules.specs.Flags.{configPlain}
+use Rattle.rule_words.specs.Rules.{configGood}
+use Rattle.rule_words.specs.Flags.{configPlain}
 use Rattle.rule_contexts.specs.declared.Asked.{Asked}
 use Rattle.rule_contexts.specs.declared.Asked.the-variants.{Context, Flags}
 

@@ -3,14 +3,14 @@
 ghost use mathlib.Core.Path.{_≡_};
 ghost use Prim.Native.Nat.{_+_, _*_, _<_, _≤_};
 ghost use lib.ListN.{length};
-ghost use Rattle.words.specs.Records.{configAt};
-ghost use Rattle.rules.specs.Rules.{passing, everyIn, refersBelow, below, continuationGood};
-ghost use Rattle.rules.specs.Flags.{continuationPlain};
+ghost use Rattle.word_reader.specs.Records.{configAt};
+ghost use Rattle.rule_words.specs.Rules.{passing, everyIn, refersBelow, below, continuationGood};
+ghost use Rattle.rule_words.specs.Flags.{continuationPlain};
 ghost use Rattle.rule_contexts.specs.Asked.{configPasses};
-use rules::plain;
-use rules::word_at;
-use rules::word_past;
-use words::Place;
+use rule_words::plain;
+use rule_words::word_at;
+use rule_words::word_past;
+use word_reader::Place;
 
 // A word as a number that one more still fits.
 fn wide(x: u32) -> u64
@@ -72,7 +72,7 @@ fn count_configs(asked: Asked, words: &[u32], count: u32, at: usize) -> u32
     let mut number: u32 = 0;
     let mut here = at;
     while number < count {
-        match listed_words::read_config(words, here) {
+        match word_records::read_config(words, here) {
             Place::Next(p) => {
                 if config_passes(asked, words, here) {
                     here = p;

@@ -3,7 +3,7 @@ use Prim.Native.Nat.{ℕ, _+_}
 use mathlib.Core.List.{List}
 use mathlib.Core.Bool.{Bool, _&&_}
 use lib.ListN.{getD}
-use Rattle.rules.specs.Rules.{good, present, follows}
+use Rattle.rule_words.specs.Rules.{good, present, follows}
 use Rattle.rule_rows.specs.declared.Third.{Third}
 use Rattle.rule_rows.specs.declared.Third.the-variants.{Target, Continuation}
 

@@ -4,13 +4,13 @@ ghost use mathlib.Core.Path.{_≡_};
 ghost use mathlib.Core.Bool.{_&&_};
 ghost use Prim.Native.Nat.{_+_, _<_, _≤_};
 ghost use lib.ListN.{length, getD};
-ghost use Rattle.rules.specs.Rules.{bothGood, asciiGood, follows, behind, searchable, thirds, wideGood, escapeGood};
+ghost use Rattle.rule_words.specs.Rules.{bothGood, asciiGood, follows, behind, searchable, thirds, wideGood, escapeGood};
 ghost use Rattle.rule_rows.specs.Thirds.{thirdGood, rangeGood};
-use rules::good;
-use rules::none_or;
-use rules::present;
-use rules::word_at;
-use rules::word_past;
+use rule_words::good;
+use rule_words::none_or;
+use rule_words::present;
+use rule_words::word_at;
+use rule_words::word_past;
 
 // Both targets of the word that stands `skip` words behind a place are good.
 fn word_is_good(words: &[u32], states: u32, at: usize, skip: usize) -> bool

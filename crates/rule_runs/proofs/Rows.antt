@@ -11,15 +11,15 @@ use lib.Seq.{take-suc-set, take-all}
 use borrow.Author.Needs.{needs}
 use borrow.Author.Tests.{le-leb, lt-leb, eq-eqb}
 use Rattle.refusal.specs.declared.Refusal.{Refusal}
-use Rattle.ascii_run.specs.declared.AsciiRun.{AsciiRun}
-use Rattle.ascii_run.specs.declared.RunAnswer.{RunAnswer}
-use Rattle.ascii_run.specs.declared.RunWords.{RunWords}
-use Rattle.ascii_run.specs.declared.Answered.the-variants.{Ran, Refused as Unread}
-use Rattle.ascii_run.specs.Shape.{run, held, answered, Gives}
-use Rattle.ascii_run.specs.Classify.{classification, classified}
-use Rattle.ascii_run.specs.Words.{wordsOf}
-use Rattle.ascii_run.proofs.Answers.{given}
-use Rattle.rules.specs.Rules.{targets, rowOf, runGood, rowNumber, stands, classifiedWords}
+use Rattle.run_shape.specs.declared.AsciiRun.{AsciiRun}
+use Rattle.run_shape.specs.declared.RunAnswer.{RunAnswer}
+use Rattle.run_shape.specs.declared.RunWords.{RunWords}
+use Rattle.run_shape.specs.declared.Answered.the-variants.{Ran, Refused as Unread}
+use Rattle.run_shape.specs.Shape.{run, held, answered, Gives}
+use Rattle.run_shape.specs.Classify.{classification, classified}
+use Rattle.run_shape.specs.Words.{wordsOf}
+use Rattle.run_shape.proofs.Answers.{given}
+use Rattle.rule_words.specs.Rules.{targets, rowOf, runGood, rowNumber, stands, classifiedWords}
 
 -- The loop that unpacks a row. Its invariant: the targets of the words passed, and behind them those of the words left, are all.
 pub record Unpacked (w : List ℕ) (at : ℕ) (row : List ℕ) (i : ℕ) : Type 0 where
@@ -102,7 +102,8 @@ pub ruleset testing = (needs, stands-tested)
 
 -- The run of a state.
 module _ (w : List ℕ) (s a at : ℕ) where
-  pub run-judged : {state k : ℕ} {x : RunWords} {r : Bool} → state ≤ 65535 → k ≡ rowNumber w s state → x ≡ classifiedWords w a k state → r ≡ stands w at x → r ≡ runGood w s a state at
+  pub run-judged : {state k : ℕ} {x : RunWords} {r : Bool} → state ≤ 65535 → k ≡ rowNumber w s state → x ≡ classifiedWords w a k state → r ≡ stands w at x
+      → r ≡ runGood w s a state at
   unfolding runGood
   run-judged {state} h d e f = f ∙ (rw (le-leb state 65535 h, e, d))
 

@@ -1,12 +1,12 @@
 // What index rule 4 asks of a run: it is the classification of its state's row.
 // It works on the words and the places of the sections' counts; a word past the end is 0, so every function takes any place.
 ghost use mathlib.Core.Path.{_≡_};
-ghost use Rattle.rules.specs.Rules.{rowOf, rowNumber, classifiedWords, stands, runGood};
-use ascii_run::Answered;
-use ascii_run::Run;
-use ascii_run::RunWords;
-use rules::word_at;
-use rules::word_past;
+ghost use Rattle.rule_words.specs.Rules.{rowOf, rowNumber, classifiedWords, stands, runGood};
+use rule_words::word_at;
+use rule_words::word_past;
+use run_shape::Answered;
+use run_shape::Run;
+use run_shape::RunWords;
 
 // Row `index` of the ASCII rows: two targets to a word, that of the even symbol in the low half.
 fn row_of(words: &[u32], ascii_rows: usize, index: u32) -> [u16; 128]
@@ -33,7 +33,7 @@ fn classified_words(words: &[u32], ascii_rows: usize, index: u32, state: u16) ->
     let answer = read.answer;
     let ranges = read.ranges;
     match answer {
-        Answered::Ran(kind) => run_write::write_serialized(Run { kind, ranges }),
+        Answered::Ran(kind) => run_words::write_serialized(Run { kind, ranges }),
         Answered::Refused(_) => RunWords {
             length: 0,
             first: 0,

@@ -5,8 +5,8 @@ use mathlib.Core.List.{List}
 use mathlib.Core.Bool.{Bool, _&&_}
 use lib.ListN.{getD}
 use borrow.Author.Needs.{needs}
-use Rattle.rules.specs.Rules.{good, noneOr, present, startGood, stateGood}
-use Rattle.rules.specs.Flags.{plain, acceptPlain}
+use Rattle.rule_words.specs.Rules.{good, noneOr, present, startGood, stateGood}
+use Rattle.rule_words.specs.Flags.{plain, acceptPlain}
 
 module _ (w : List ℕ) (at : ℕ) where
   pub start-tested : (ns : ℕ) {x : ℕ} {r : Bool} → r ≡ noneOr ns x → x ≡ getD w at 0 → r ≡ startGood ns w at

@@ -1,14 +1,14 @@
 // What index rules 1 and 2 ask of a mode and of a state, and whether the flag of an accept is plain.
 // Each takes the words and the place of a record; a word past the end is 0, so every function takes any place.
 ghost use mathlib.Core.Path.{_≡_};
-ghost use Rattle.rules.specs.Rules.{startGood, stateGood};
-ghost use Rattle.rules.specs.Flags.{acceptPlain};
-use rules::good;
-use rules::none_or;
-use rules::plain;
-use rules::present;
-use rules::word_at;
-use rules::word_past;
+ghost use Rattle.rule_words.specs.Rules.{startGood, stateGood};
+ghost use Rattle.rule_words.specs.Flags.{acceptPlain};
+use rule_words::good;
+use rule_words::none_or;
+use rule_words::plain;
+use rule_words::present;
+use rule_words::word_at;
+use rule_words::word_past;
 
 // Rule 1: a mode's start is a state, or NONE.
 pub fn start_is_state(words: &[u32], states: u32, at: usize) -> bool

@@ -6,12 +6,12 @@ use mathlib.Core.Bool.{Bool, true}
 use lib.Dec.{eqb}
 use lib.ListN.{length, getD}
 use borrow.Author.Needs.{needs}
-use Rattle.words.specs.Records.{modeAt, stateAt, asciiAt, wideAt, escapeAt, continuationAt}
-use Rattle.records.specs.declared.Kind.{Kind}
-use Rattle.records.specs.declared.Kind.the-variants.{Mode, State, AsciiRow, WideRow, EscapeRow, Continuation}
-use Rattle.records.specs.Kinds.{recordAt}
-use Rattle.rules.specs.Rules.{passing, startGood, stateGood, asciiGood, wideGood, escapeGood, continuationGood, rule1, rule2, rule5, rule6, rule8, rule9}
-use Rattle.rules.proofs.Laws.{numbered-past, numbered-passes, in-section}
+use Rattle.word_reader.specs.Records.{modeAt, stateAt, asciiAt, wideAt, escapeAt, continuationAt}
+use Rattle.word_sections.specs.declared.Kind.{Kind}
+use Rattle.word_sections.specs.declared.Kind.the-variants.{Mode, State, AsciiRow, WideRow, EscapeRow, Continuation}
+use Rattle.word_sections.specs.Kinds.{recordAt}
+use Rattle.rule_words.specs.Rules.{passing, startGood, stateGood, asciiGood, wideGood, escapeGood, continuationGood, rule1, rule2, rule5, rule6, rule8, rule9}
+use Rattle.rule_words.proofs.Laws.{numbered-past, numbered-passes, in-section}
 use Rattle.rule_walk.specs.declared.Question.{Question}
 use Rattle.rule_walk.specs.declared.Question.the-variants.{StartIsState, StateIsValid, AsciiRowIsGood, WideRowIsSearchable}
 use Rattle.rule_walk.specs.declared.Question.the-variants.{EscapeRowIsValid, ContinuationIsValid}

@@ -2,10 +2,10 @@
 use Prim.Native.Nat.{ℕ}
 use mathlib.Core.List.{List}
 use mathlib.Core.Bool.{Bool}
-use Rattle.records.specs.declared.Kind.{Kind}
-use Rattle.records.specs.Kinds.{recordAt}
-use Rattle.rules.specs.Rules.{numberedIn, startGood, stateGood, runGood, asciiGood, wideGood, escapeGood, continuationGood}
-use Rattle.rules.specs.Flags.{acceptPlain, continuationPlain}
+use Rattle.word_sections.specs.declared.Kind.{Kind}
+use Rattle.word_sections.specs.Kinds.{recordAt}
+use Rattle.rule_words.specs.Rules.{numberedIn, startGood, stateGood, runGood, asciiGood, wideGood, escapeGood, continuationGood}
+use Rattle.rule_words.specs.Flags.{acceptPlain, continuationPlain}
 use Rattle.rule_walk.specs.declared.Question.{Question}
 use Rattle.rule_walk.specs.declared.Question.the-variants.{StartIsState, StateIsValid, RunIsClassified, AsciiRowIsGood, WideRowIsSearchable}
 use Rattle.rule_walk.specs.declared.Question.the-variants.{EscapeRowIsValid, ContinuationIsValid, AcceptIsPlain, ContinuationIsPlain}

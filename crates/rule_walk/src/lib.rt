@@ -1,12 +1,12 @@
 // The walk over the records of a section that asks something of each: one loop, whatever the kind of record and the question.
 // Above it each index rule that walks over records, 1, 2, 4, 5, 6, 8 and 9. All work on the words and the places of the sections' counts.
 ghost use mathlib.Core.Path.{_≡_};
-ghost use Rattle.records.specs.Kinds.{recordAt};
-ghost use Rattle.rules.specs.Rules.{passing, rule1, rule2, rule4, rule5, rule6, rule8, rule9};
+ghost use Rattle.word_sections.specs.Kinds.{recordAt};
+ghost use Rattle.rule_words.specs.Rules.{passing, rule1, rule2, rule4, rule5, rule6, rule8, rule9};
 ghost use Rattle.rule_walk.specs.Questions.{passes, allPass};
-use records::Kind;
-use rules::word_at;
-use words::Place;
+use rule_words::word_at;
+use word_reader::Place;
+use word_sections::Kind;
 
 // What is asked of a record, with the numbers that it is judged by: how many states, rows, accepts or continuations there are. A run is judged by
 // the places of the states' and the ASCII rows' counts.
@@ -65,7 +65,7 @@ fn count_passing(kind: Kind, question: Question, words: &[u32], count: u32, at: 
     let mut number: u32 = 0;
     let mut here = at;
     while number < count {
-        match records::read_record(kind, words, here) {
+        match word_sections::read_record(kind, words, here) {
             Place::Next(p) => {
                 if passes(question, words, number, here) {
                     here = p;

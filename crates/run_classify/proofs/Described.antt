@@ -11,18 +11,18 @@ use lib.Seq.{take-append-seam}
 use borrow.Author.Tests.{eq-eqb, ne-eqb, eqb-true, eqb-false, le-leb, lt-leb, leb-true}
 use Rattle.refusal.specs.Said.{FIELD}
 use Rattle.refusal.specs.Lists.{pick, some}
-use Rattle.ascii_range.specs.declared.AsciiRange.{AsciiRange}
-use Rattle.ascii_range.specs.Ranges.{loopsAt, exitsAt, rangesFrom, outside, upToFour, listed}
-use Rattle.ascii_range.proofs.Maximal.{passing, passing-in, passing-behind, ranges-hold}
-use Rattle.ascii_run.specs.declared.AsciiRun.{AsciiRun}
-use Rattle.ascii_run.specs.declared.AsciiRun.the-variants.{None}
-use Rattle.ascii_run.specs.declared.Run.{Run}
-use Rattle.ascii_run.specs.declared.Answered.the-variants.{Ran}
-use Rattle.ascii_run.specs.declared.RunAnswer.{RunAnswer}
-use Rattle.ascii_run.specs.Shape.{Shape, none, any, until, ranges, shape, held, run, refused, Gives}
-use Rattle.ascii_run.specs.Classify.{exitsFrom, byRanges, byExits, classification, classified}
-use Rattle.ascii_run.specs.Scan.{stops, stopsHigh, skipped, skippedSaid, scanSaid}
-use Rattle.ascii_run.proofs.Answers.{given}
+use Rattle.run_ranges.specs.declared.AsciiRange.{AsciiRange}
+use Rattle.run_ranges.specs.Ranges.{loopsAt, exitsAt, rangesFrom, outside, upToFour, listed}
+use Rattle.run_ranges.proofs.Maximal.{passing, passing-in, passing-behind, ranges-hold}
+use Rattle.run_shape.specs.declared.AsciiRun.{AsciiRun}
+use Rattle.run_shape.specs.declared.AsciiRun.the-variants.{None}
+use Rattle.run_shape.specs.declared.Run.{Run}
+use Rattle.run_shape.specs.declared.Answered.the-variants.{Ran}
+use Rattle.run_shape.specs.declared.RunAnswer.{RunAnswer}
+use Rattle.run_shape.specs.Shape.{Shape, none, any, until, ranges, shape, held, run, refused, Gives}
+use Rattle.run_shape.specs.Classify.{exitsFrom, byRanges, byExits, classification, classified}
+use Rattle.run_shape.specs.Scan.{stops, stopsHigh, skipped, skippedSaid, scanSaid}
+use Rattle.run_shape.proofs.Answers.{given}
 
 -- The exits of a row.
 
@@ -59,7 +59,8 @@ above-next least (e ∷ []) a i h = absurd (omega arith)
 above-next least (e ∷ f ∷ es) a zero h = omega arith
 above-next least (e ∷ f ∷ es) a (suc i) h = above-next (suc e) (f ∷ es) (a .1) i (omega arith)
 
-pub exits-ascend : (state k : ℕ) (ts : List ℕ) (i : ℕ) → suc i < length (exitsFrom state k ts) → getD (exitsFrom state k ts) i 0 < getD (exitsFrom state k ts) (suc i) 0
+pub exits-ascend : (state k : ℕ) (ts : List ℕ) (i : ℕ) → suc i < length (exitsFrom state k ts)
+    → getD (exitsFrom state k ts) i 0 < getD (exitsFrom state k ts) (suc i) 0
 exits-ascend state k ts i h = above-next k (exitsFrom state k ts) (exits-above state k ts) i h
 
 -- The shape that exits and ranges give, by how many there are.
@@ -90,10 +91,12 @@ module _ (es : List ℕ) (rs : List AsciiRange) where
     cases false e m f = refl
 
   -- what is so of each shape that they can give is so of the one that they give
-  by-shape : (P : Shape → Type 0) → (length es ≡ 0 → P any) → (1 ≤ length es → length es ≤ 3 → P (until es)) → (length rs ≤ 4 → P (ranges rs)) → P none → P (byExits es rs)
+  by-shape : (P : Shape → Type 0) → (length es ≡ 0 → P any) → (1 ≤ length es → length es ≤ 3 → P (until es)) → (length rs ≤ 4 → P (ranges rs))
+      → P none → P (byExits es rs)
   unfolding byExits byRanges
   by-shape P a u r n = cases (eqb (length es) 0) refl (leb (length es) 3) refl (leb 1 (length rs)) (leb (length rs) 4) refl where
-    cases : (t : Bool) → eqb (length es) 0 ≡ t → (v : Bool) → leb (length es) 3 ≡ v → (l m : Bool) → leb (length rs) 4 ≡ m → P (pick t any (pick v (until es) (pick (l && m) (ranges rs) none)))
+    cases : (t : Bool) → eqb (length es) 0 ≡ t → (v : Bool) → leb (length es) 3 ≡ v → (l m : Bool) → leb (length rs) 4 ≡ m
+        → P (pick t any (pick v (until es) (pick (l && m) (ranges rs) none)))
     cases true e v f l m g = a (eqb-true (length es) 0 e)
     cases false e true f l m g = u (omega (arith, eqb-false (length es) 0 e)) (leb-true (length es) 3 f)
     cases false e false f true true g = r (leb-true (length rs) 4 g)
@@ -108,19 +111,22 @@ none-among p [] h = refl
 none-among p (e ∷ es) h = absurd (omega arith)
 
 -- if exits and ranges agree on a byte, so does the shape that they give
-stops-alike : (es : List ℕ) (rs : List AsciiRange) (b : ℕ) {t : Bool} → some (eqb b) es ≡ t → outside rs b ≡ t → (byExits es rs ≡ none → ⊥) → stops (byExits es rs) b ≡ t
+stops-alike : (es : List ℕ) (rs : List AsciiRange) (b : ℕ) {t : Bool} → some (eqb b) es ≡ t → outside rs b ≡ t → (byExits es rs ≡ none → ⊥)
+    → stops (byExits es rs) b ≡ t
 unfolding stops
 stops-alike es rs b {t} e o =
     by-shape es rs (λ s. (s ≡ none → ⊥) → stops s b ≡ t) (λ h n. sym (none-among (eqb b) es h) ∙ e) (λ l h n. e) (λ h n. o) (λ n. absurd (n refl))
 
-pub classification-stops : (state : ℕ) (row : List ℕ) → (classification state row ≡ none → ⊥) → (b : ℕ) → b < length row → stops (classification state row) b ≡ exitsAt state (getD row b 0)
+pub classification-stops : (state : ℕ) (row : List ℕ) → (classification state row ≡ none → ⊥) → (b : ℕ) → b < length row
+    → stops (classification state row) b ≡ exitsAt state (getD row b 0)
 classification-stops state row n b h =
     let e = exits-hold state 0 row b ∙ passing-in (exitsAt state) row b h in
     let l = ranges-hold state 0 row b ∙ passing-in (loopsAt state) row b h in
     stops-alike (exitsFrom state 0 row) (rangesFrom state 0 row) b e (ap not l) n
 
 -- "until-runs .. pass bytes of 128 and above; ranges stop there; any takes all": a row has no symbol there, so that no exit and no range is
-pub classification-high : (state : ℕ) (row : List ℕ) → length row ≡ 128 → (b : ℕ) → 128 ≤ b → stops (classification state row) b ≡ stopsHigh (classification state row)
+pub classification-high : (state : ℕ) (row : List ℕ) → length row ≡ 128 → (b : ℕ) → 128 ≤ b
+    → stops (classification state row) b ≡ stopsHigh (classification state row)
 unfolding stops
 classification-high state row l b h =
     let es = exitsFrom state 0 row in

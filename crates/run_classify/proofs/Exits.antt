@@ -12,12 +12,12 @@ use borrow.Author.Tests.{eq-eqb, ne-eqb, lt-leb}
 use Rattle.refusal.specs.Said.{FIELD}
 use Rattle.refusal.specs.Lists.{before}
 use Rattle.refusal.proofs.Lists.{before-next, before-here, search-first}
-use Rattle.ascii_range.specs.Ranges.{exitsAt, rangesFrom, loopRanges}
-use Rattle.ascii_run.specs.declared.AsciiRun.the-variants.{Any, Until1, Until2, Until3}
-use Rattle.ascii_run.specs.declared.RunAnswer.{RunAnswer}
-use Rattle.ascii_run.specs.Shape.{plain, held, run, refused, answered, Gives}
-use Rattle.ascii_run.specs.Classify.{exitsFrom, byRanges, byExits, classified}
-use Rattle.ascii_run.proofs.Answers.{gives}
+use Rattle.run_ranges.specs.Ranges.{exitsAt, rangesFrom, loopRanges}
+use Rattle.run_shape.specs.declared.AsciiRun.the-variants.{Any, Until1, Until2, Until3}
+use Rattle.run_shape.specs.declared.RunAnswer.{RunAnswer}
+use Rattle.run_shape.specs.Shape.{plain, held, run, refused, answered, Gives}
+use Rattle.run_shape.specs.Classify.{exitsFrom, byRanges, byExits, classified}
+use Rattle.run_shape.proofs.Answers.{gives}
 
 module _ (state : ℕ) where
   exits-nil : (k : ℕ) → exitsFrom state k [] ≡ []
@@ -46,16 +46,19 @@ module _ (state : ℕ) where
 
     -- the next exit
     pub exits-next : e < length row → exitsFrom state i (drop i row) ≡ e ∷ exitsFrom state (e + 1) (drop (e + 1) row)
-    exits-next l = moved ∙ (rw (add-one, drop-cons row e 0) (exits-here e (getD row e 0) (drop (suc e) row) (before-here (exitsAt state) row e l (before-next (exitsAt state) row i h))))
+    exits-next l = moved ∙ (rw (add-one, drop-cons row e 0)
+        (exits-here e (getD row e 0) (drop (suc e) row) (before-here (exitsAt state) row e l (before-next (exitsAt state) row i h))))
 
 -- three exits, and the exits behind them
-three : (state : ℕ) (row : List ℕ) {a b c : ℕ} → a ≡ 0 + before (exitsAt state) row → a < length row → b ≡ a + 1 + before (exitsAt state) (drop (a + 1) row) → b < length row →
+three : (state : ℕ) (row : List ℕ) {a b c : ℕ} → a ≡ 0 + before (exitsAt state) row → a < length row →
+    b ≡ a + 1 + before (exitsAt state) (drop (a + 1) row) → b < length row →
     c ≡ b + 1 + before (exitsAt state) (drop (b + 1) row) → c < length row → exitsFrom state 0 row ≡ a ∷ b ∷ c ∷ exitsFrom state (c + 1) (drop (c + 1) row)
 three state row {a} {b} ea la eb lb ec lc = exits-next state row 0 ea la ∙ (rw (exits-next state row (a + 1) eb lb, exits-next state row (b + 1) ec lc))
 
 -- What the code answers once it has found up to four exits. `r` is its answer.
 module _ (state : ℕ) (row : List ℕ) {r : RunAnswer} where
-  by-exits : (es : List ℕ) → length row ≡ 128 → exitsFrom state 0 row ≡ es → r ≡ answered (run (held (byExits es (rangesFrom state 0 row)))) → Gives r (classified state row)
+  by-exits : (es : List ℕ) → length row ≡ 128 → exitsFrom state 0 row ≡ es → r ≡ answered (run (held (byExits es (rangesFrom state 0 row))))
+      → Gives r (classified state row)
   unfolding classified
   by-exits es w e h = gives _ (h ∙ (rw (w, e)))
 
@@ -63,7 +66,8 @@ module _ (state : ℕ) (row : List ℕ) {r : RunAnswer} where
   unfolding classified
   no-row h w = gives _ (h ∙ (rw (ne-eqb (length row) 128 w)))
 
-  pub is-any : {a : ℕ} → r ≡ answered (run (plain Any)) → length row ≡ 128 → a ≡ 0 + before (exitsAt state) row → length row ≤ a → Gives r (classified state row)
+  pub is-any : {a : ℕ} → r ≡ answered (run (plain Any)) → length row ≡ 128 → a ≡ 0 + before (exitsAt state) row → length row ≤ a
+      → Gives r (classified state row)
   unfolding byExits held
   is-any h w ea l = by-exits [] w (exits-end state row 0 ea l) h
 
@@ -73,7 +77,8 @@ module _ (state : ℕ) (row : List ℕ) {r : RunAnswer} where
   is-until1 {a} h w ea la eb l = by-exits (a ∷ []) w (exits-next state row 0 ea la ∙ (rw (exits-end state row (a + 1) eb l))) h
 
   pub is-until2 : {a b c : ℕ} → r ≡ answered (run (plain (Until2 a b))) → length row ≡ 128 → a ≡ 0 + before (exitsAt state) row → a < length row →
-      b ≡ a + 1 + before (exitsAt state) (drop (a + 1) row) → b < length row → c ≡ b + 1 + before (exitsAt state) (drop (b + 1) row) → length row ≤ c → Gives r (classified state row)
+      b ≡ a + 1 + before (exitsAt state) (drop (a + 1) row) → b < length row → c ≡ b + 1 + before (exitsAt state) (drop (b + 1) row) → length row ≤ c →
+      Gives r (classified state row)
   unfolding byExits held
   is-until2 {a} {b} h w ea la eb lb ec l =
       by-exits (a ∷ b ∷ []) w (exits-next state row 0 ea la ∙ (rw (exits-next state row (a + 1) eb lb, exits-end state row (b + 1) ec l))) h
@@ -84,7 +89,8 @@ module _ (state : ℕ) (row : List ℕ) {r : RunAnswer} where
   unfolding byExits held
   is-until3 {a} {b} {c} h w ea la eb lb ec lc ed l = by-exits (a ∷ b ∷ c ∷ []) w (three state row ea la eb lb ec lc ∙ (rw (exits-end state row (c + 1) ed l))) h
 
-  pub is-ranges : {a b c d : ℕ} → r ≡ answered (run (held (byRanges (loopRanges state row)))) → length row ≡ 128 → a ≡ 0 + before (exitsAt state) row → a < length row →
+  pub is-ranges : {a b c d : ℕ} → r ≡ answered (run (held (byRanges (loopRanges state row)))) → length row ≡ 128 →
+      a ≡ 0 + before (exitsAt state) row → a < length row →
       b ≡ a + 1 + before (exitsAt state) (drop (a + 1) row) → b < length row → c ≡ b + 1 + before (exitsAt state) (drop (b + 1) row) → c < length row →
       d ≡ c + 1 + before (exitsAt state) (drop (c + 1) row) → d < length row → Gives r (classified state row)
   unfolding byExits loopRanges
@@ -93,6 +99,7 @@ module _ (state : ℕ) (row : List ℕ) {r : RunAnswer} where
       let n = suc (suc (suc (suc (length es)))) in
       let k : r ≡ answered (run (held (byRanges (rangesFrom state 0 row)))) = rw (eq-eqb (length row) 128 w) at h in
       let z : n ≡ 0 → ⊥ = λ e. omega arith in
-      by-exits (a ∷ b ∷ c ∷ d ∷ es) w (three state row ea la eb lb ec lc ∙ (rw (exits-next state row (c + 1) ed l))) (k ∙ (rw (ne-eqb n 0 z, lt-leb n 3 (omega arith))))
+      by-exits (a ∷ b ∷ c ∷ d ∷ es) w (three state row ea la eb lb ec lc ∙ (rw (exits-next state row (c + 1) ed l)))
+      (k ∙ (rw (ne-eqb n 0 z, lt-leb n 3 (omega arith))))
 
 pub ruleset classifying = (needs, no-row, is-any, is-until1, is-until2, is-until3, is-ranges)

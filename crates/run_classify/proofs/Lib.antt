@@ -1,3 +1,4 @@
+pub mod Loops
 pub mod Ranged
 pub mod Exits
 pub mod Described

@@ -9,14 +9,14 @@ use lib.ListN.{length}
 use borrow.Author.Needs.{needs}
 use borrow.Author.Tests.{le-leb}
 use Rattle.refusal.specs.Lists.{pick}
-use Rattle.ascii_range.specs.declared.AsciiRange.{AsciiRange}
-use Rattle.ascii_range.specs.declared.AsciiRanges.{AsciiRanges}
-use Rattle.ascii_range.specs.Ranges.{upToFour}
-use Rattle.ascii_run.specs.declared.AsciiRun.the-variants.{None, Ranges}
-use Rattle.ascii_run.specs.declared.Answered.the-variants.{Ran}
-use Rattle.ascii_run.specs.declared.RunAnswer.{RunAnswer}
-use Rattle.ascii_run.specs.Shape.{none, ranges, plain, held, run, answered}
-use Rattle.ascii_run.specs.Classify.{byRanges}
+use Rattle.run_ranges.specs.declared.AsciiRange.{AsciiRange}
+use Rattle.run_ranges.specs.declared.AsciiRanges.{AsciiRanges}
+use Rattle.run_ranges.specs.Ranges.{upToFour}
+use Rattle.run_shape.specs.declared.AsciiRun.the-variants.{None, Ranges}
+use Rattle.run_shape.specs.declared.Answered.the-variants.{Ran}
+use Rattle.run_shape.specs.declared.RunAnswer.{RunAnswer}
+use Rattle.run_shape.specs.Shape.{none, ranges, plain, held, run, answered}
+use Rattle.run_shape.specs.Classify.{byRanges}
 
 -- the ranges, or none
 module _ (rs : List AsciiRange) where

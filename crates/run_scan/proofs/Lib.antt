@@ -1,2 +1,3 @@
+pub mod RangeScans
 pub mod Scans
 pub mod ScanSaid

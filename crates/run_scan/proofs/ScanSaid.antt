@@ -5,9 +5,9 @@ use mathlib.Core.Bool.{Bool, true, false}
 use mathlib.Core.List.{List, [], _∷_}
 use lib.Dec.{eqb}
 use Rattle.refusal.specs.Said.{Said, ok, no}
-use Rattle.ascii_run.specs.declared.Scanned.{Scanned}
-use Rattle.ascii_run.specs.declared.Scanned.the-variants.{NoRun, Skipped}
-use Rattle.ascii_run.specs.Scan.{bit, said}
+use Rattle.run_shape.specs.declared.Scanned.{Scanned}
+use Rattle.run_shape.specs.declared.Scanned.the-variants.{NoRun, Skipped}
+use Rattle.run_shape.specs.Scan.{bit, said}
 
 abbrev answerOf : List ℕ → Scanned
 answerOf [] = NoRun

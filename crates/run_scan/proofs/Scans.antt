@@ -11,14 +11,14 @@ use lib.Seq.{length-take-le}
 use Rattle.refusal.specs.Said.{ok}
 use Rattle.refusal.specs.Lists.{some, before}
 use Rattle.refusal.proofs.Lists.{searching, before-≤, before-never, before-always, before-same}
-use Rattle.ascii_range.specs.declared.AsciiRanges.{AsciiRanges}
-use Rattle.ascii_range.specs.Ranges.{outside, listed}
-use Rattle.ascii_run.specs.declared.AsciiRun.{AsciiRun}
-use Rattle.ascii_run.specs.declared.AsciiRun.the-variants.{None, Any, Until1, Until2, Until3, Ranges}
-use Rattle.ascii_run.specs.declared.Scanned.{Scanned}
-use Rattle.ascii_run.specs.declared.Scanned.the-variants.{NoRun}
-use Rattle.ascii_run.specs.Shape.{Shape, none, any, until, ranges, shapeOf}
-use Rattle.ascii_run.specs.Scan.{stops, skipped, said, isNone, skippedSaid, scanSaid}
+use Rattle.run_ranges.specs.declared.AsciiRanges.{AsciiRanges}
+use Rattle.run_ranges.specs.Ranges.{outside, listed}
+use Rattle.run_shape.specs.declared.AsciiRun.{AsciiRun}
+use Rattle.run_shape.specs.declared.AsciiRun.the-variants.{None, Any, Until1, Until2, Until3, Ranges}
+use Rattle.run_shape.specs.declared.Scanned.{Scanned}
+use Rattle.run_shape.specs.declared.Scanned.the-variants.{NoRun}
+use Rattle.run_shape.specs.Shape.{Shape, none, any, until, ranges, shapeOf}
+use Rattle.run_shape.specs.Scan.{stops, skipped, said, isNone, skippedSaid, scanSaid}
 
 -- The tests of one, two and three exits.
 pub stops-one : (a x : ℕ) {t : Bool} → eqb x a ≡ t → stops (until (a ∷ [])) x ≡ t
@@ -87,7 +87,8 @@ module _ (q : AsciiRanges) (bs : List ℕ) (k : AsciiRun) {t : Bool} where
   pub says-none : t ≡ isNone k → t ≡ true → said NoRun ≡ scanSaid (shapeOf k q) bs
   says-none f e = sym (no-run q bs k (sym f ∙ e))
 
-  pub says-run : (r : Scanned) {n : ℕ} → t ≡ isNone k → t ≡ false → n ≡ skipped (shapeOf k q) bs → said r ≡ skippedSaid n bs → said r ≡ scanSaid (shapeOf k q) bs
+  pub says-run : (r : Scanned) {n : ℕ} → t ≡ isNone k → t ≡ false → n ≡ skipped (shapeOf k q) bs → said r ≡ skippedSaid n bs
+      → said r ≡ scanSaid (shapeOf k q) bs
   says-run r f e g h = h ∙ (rw (g, a-run q bs k (sym f ∙ e)))
 
 -- The front part has the length that it is given.

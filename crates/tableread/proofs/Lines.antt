@@ -11,12 +11,12 @@ use lib.ListN.{length, getD, take, drop, set, length-append, length-set, drop-of
 use lib.Seq.{drop-cons}
 use Rattle.io.specs.Digits.{digits, Fewest}
 use Rattle.refusal.specs.declared.Refusal.{Refusal}
-use Rattle.written.specs.Over.{Put}
-use Rattle.written.proofs.Going.{Going, going-start, going-done, going-room, going-turn, going-place, going-put, put-one, put-size-1}
-use Rattle.room.specs.Room.{each}
-use Rattle.codec.specs.declared.Decoded.{Decoded}
-use Rattle.codec.specs.declared.Decoded.the-variants.{Table, Refused}
-use Rattle.codec.specs.Decode.{said}
+use Rattle.buffer.specs.Over.{Put}
+use Rattle.buffer.proofs.Going.{Going, going-start, going-done, going-room, going-turn, going-place, going-put, put-one, put-size-1}
+use Rattle.room_fill.specs.Room.{each}
+use Rattle.room_decode.specs.declared.Decoded.{Decoded}
+use Rattle.room_decode.specs.declared.Decoded.the-variants.{Table, Refused}
+use Rattle.room_decode.specs.Decode.{said}
 use Rattle.program_io.specs.Decimal.{decimal}
 use Rattle.program_io.proofs.Front.{front, front-in, front-many}
 use Rattle.program_io.proofs.Decimal.{decimal-length, found}

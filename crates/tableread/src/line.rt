@@ -4,11 +4,11 @@ ghost use mathlib.Core.Path.{_≡_};
 ghost use Prim.Native.Nat.{_+_, _≤_};
 ghost use lib.ListN.{length, take};
 ghost use Rattle.io.specs.Counts.{Counts};
-ghost use Rattle.written.specs.Over.{Put};
-ghost use Rattle.room.specs.Room.{each};
-ghost use Rattle.codec.specs.Decode.{said};
+ghost use Rattle.buffer.specs.Over.{Put};
+ghost use Rattle.room_fill.specs.Room.{each};
+ghost use Rattle.room_decode.specs.Decode.{said};
 ghost use Rattle.tableread.specs.Line.{spaced, lineWith, lineOf};
-use codec::Decoded;
+use room_decode::Decoded;
 
 // The most bytes that a line has are 66: three numbers of 20 digits, each behind a space, a word of two letters and the end.
 pub(crate) const LONGEST: usize = 66;

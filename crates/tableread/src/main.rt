@@ -11,7 +11,7 @@ use refusal::ROOM_NUMBERS;
 ghost use mathlib.Core.Path.{_≡_};
 ghost use lib.ListN.{take};
 ghost use Rattle.io.specs.Counts.{Counts};
-ghost use Rattle.codec.specs.Decode.{said};
+ghost use Rattle.room_decode.specs.Decode.{said};
 ghost use Rattle.program_io.specs.Bytes.{readOf};
 ghost use Rattle.tableread.specs.Line.{lineOf};
 

@@ -15,11 +15,11 @@ use Rattle.refusal.specs.Said.{Said}
 use Rattle.program_io.proofs.Decimal.{found}
 use Rattle.refusal.specs.Fixed.{NONE}
 use Rattle.refusal.specs.Lists.{pick}
-use Rattle.accepts.specs.Record.{recordOf}
-use Rattle.modes.specs.Start.{modeStart}
-use Rattle.targets.specs.Targets.{asciiTarget, eofTarget}
-use Rattle.accepts.specs.Accept.{acceptOf}
-use Rattle.continuations.specs.Continuation.{eofContinuation}
+use Rattle.look_accepts.specs.Record.{recordOf}
+use Rattle.look_modes.specs.Start.{modeStart}
+use Rattle.look_targets.specs.Targets.{asciiTarget, eofTarget}
+use Rattle.look_accepts.specs.Accept.{acceptOf}
+use Rattle.look_continuations.specs.Continuation.{eofContinuation}
 use Rattle.tableshow.specs.Shown.{Shown, joined}
 use Rattle.tableshow.specs.Names.{number, hexDigit, range, target}
 use Rattle.tableshow.specs.Forms.{formed}

@@ -11,8 +11,8 @@ use lib.Dec.{ltb}
 use lib.ListN.{length, set, getD, take, drop, length-append, drop-of-length-le}
 use lib.Seq.{drop-cons, length-take-le}
 use native.Mathlib.Numerals.{add-one}
-use Rattle.written.specs.Over.{over, lay}
-use Rattle.written.proofs.Overs.{lay-length, lay-none, lay-put, lay-lay}
+use Rattle.buffer.specs.Over.{over, lay}
+use Rattle.buffer.proofs.Overs.{lay-length, lay-none, lay-put, lay-lay}
 use Rattle.tableshow.specs.Shown.{reached, Shown, joined, ifLess, ifSame}
 
 -- What is laid past the end is nothing, and what is laid behind what reaches the end

@@ -4,11 +4,11 @@ use mathlib.Core.List.{List, [], _∷_, _++_}
 use lib.ListN.{getD}
 use Rattle.refusal.specs.Said.{Said, ok, no}
 use Rattle.refusal.specs.Fixed.{NONE}
-use Rattle.modes.specs.Start.{modeStart}
-use Rattle.targets.specs.Targets.{eofTarget}
-use Rattle.accepts.specs.Accept.{acceptOf}
-use Rattle.accepts.specs.Record.{recordOf}
-use Rattle.continuations.specs.Continuation.{eofContinuation}
+use Rattle.look_modes.specs.Start.{modeStart}
+use Rattle.look_targets.specs.Targets.{eofTarget}
+use Rattle.look_accepts.specs.Accept.{acceptOf}
+use Rattle.look_accepts.specs.Record.{recordOf}
+use Rattle.look_continuations.specs.Continuation.{eofContinuation}
 use Rattle.tableshow.specs.Shown.{joined, ifLess, ifSame}
 use Rattle.tableshow.specs.Names.{number, symbol, range, target}
 use Rattle.tableshow.specs.Rows.{orElse, runAt, asciiText, wideText, escapesText}

@@ -5,7 +5,7 @@ use lib.Dec.{ltb, eqb}
 use lib.ListN.{getD}
 use Rattle.refusal.specs.Said.{Said, ok, no}
 use Rattle.refusal.specs.Lists.{pick}
-use Rattle.targets.specs.Targets.{asciiTarget}
+use Rattle.look_targets.specs.Targets.{asciiTarget}
 use Rattle.tableshow.specs.Shown.{joined, ifSame}
 use Rattle.tableshow.specs.Names.{number, range, target}
 use Rattle.tableshow.specs.Texts.{between, next-line, no-items, end-line, ascii-label, wide-label, wide-as, escapes-label}

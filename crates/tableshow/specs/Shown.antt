@@ -5,7 +5,7 @@ use mathlib.Core.List.{List, [], _∷_, _++_}
 use lib.Dec.{ltb, eqb}
 use lib.ListN.{length}
 use Rattle.refusal.specs.Lists.{pick}
-use Rattle.written.specs.Over.{lay}
+use Rattle.buffer.specs.Over.{lay}
 
 -- how far x bytes from place n on reach on a page of l bytes
 unfoldable pub reached : ℕ → ℕ → ℕ → ℕ

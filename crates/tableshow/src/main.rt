@@ -10,10 +10,10 @@ mod page;
 mod rows;
 mod text;
 
-use codec::Decoded;
 use libc::STDIN_FILENO;
 use libc::STDOUT_FILENO;
 use refusal::ROOM_NUMBERS;
+use room_decode::Decoded;
 ghost use mathlib.Core.Path.{_≡_};
 ghost use Prim.Native.Nat.{min};
 ghost use lib.ListN.{length, take};

@@ -3,10 +3,10 @@ ghost use mathlib.Core.Path.{_≡_};
 ghost use Prim.Native.Nat.{ℕ};
 ghost use Rattle.refusal.specs.Fixed.{NONE as none};
 ghost use Rattle.refusal.specs.Lists.{pick};
-ghost use Rattle.accepts.specs.Record as recorded;
-ghost use Rattle.continuations.specs.Continuation as continued;
-ghost use Rattle.modes.specs.Start as started;
-ghost use Rattle.targets.specs.Targets.{eofTarget};
+ghost use Rattle.look_accepts.specs.Record as recorded;
+ghost use Rattle.look_continuations.specs.Continuation as continued;
+ghost use Rattle.look_modes.specs.Start as started;
+ghost use Rattle.look_targets.specs.Targets.{eofTarget};
 ghost use Rattle.tableshow.specs.Shown.{Shown};
 ghost use Rattle.tableshow.specs.Forms.{formed};
 ghost use Rattle.tableshow.specs.Rows.{orElse, runAt};
@@ -19,10 +19,10 @@ use crate::rows::put_escapes;
 use crate::rows::put_wide;
 use crate::rows::run_at;
 use crate::text::put_form;
-use accepts::AcceptRecord;
-use modes::Start;
+use look_accepts::AcceptRecord;
+use look_modes::Start;
 use refusal::NONE;
-use rules::word_at;
+use rule_words::word_at;
 
 fn record_form(flag: u32, actions: u32) -> usize
     ensures { λ r. ⌜ ((k rule : ℕ) → formed r k rule actions ≡ recordLine k rule flag actions) ⌝ }
@@ -107,13 +107,13 @@ fn put_accept(room: &[u32], accept: u32, page: &mut [u8], n: usize) -> usize
     if accept == NONE {
         return put_form(forms::NO_ACCEPT, 0, 0, 0, page, n);
     }
-    put_said(accept, accept_records::accept_record(room, accept), page, n)
+    put_said(accept, look_accepts::accept_record(room, accept), page, n)
 }
 
 fn put_head(room: &[u32], state: u16, page: &mut [u8], n: usize) -> usize
     ensures { λ r. ⌜ Shown (headText (now (room .entry)) state) n (now (page .entry)) r (now (page .exit)) ⌝ }
 {
-    let accept = number_or(accepts::accept(room, state), NONE);
+    let accept = number_or(look_accepts::accept(room, state), NONE);
     let behind_state = put_form(forms::STATE, state as u64, 0, 0, page, n);
     put_accept(room, accept, page, behind_state)
 }
@@ -201,7 +201,7 @@ fn end_form(to: u32) -> usize
 fn put_end_of(room: &[u32], state: u16, page: &mut [u8], n: usize) -> usize
     ensures { λ r. ⌜ Shown (endTarget (orElse 65535 (eofTarget (now (room .entry)) state))) n (now (page .entry)) r (now (page .exit)) ⌝ }
 {
-    let to = number_or(char_targets::eof_target(room, state), 65535);
+    let to = number_or(look_targets::eof_target(room, state), 65535);
     put_form(end_form(to), to as u64, 0, 0, page, n)
 }
 
@@ -217,7 +217,7 @@ fn continuation_form(to: u32) -> usize
 fn put_continuation_of(room: &[u32], state: u16, page: &mut [u8], n: usize) -> usize
     ensures { λ r. ⌜ Shown (endContinuation (orElse none (continued.eofContinuation (now (room .entry)) state))) n (now (page .entry)) r (now (page .exit)) ⌝ }
 {
-    let to = number_or(continuations::eof_continuation(room, state), NONE);
+    let to = number_or(look_continuations::eof_continuation(room, state), NONE);
     put_form(continuation_form(to), to as u64, 0, 0, page, n)
 }
 
@@ -265,7 +265,7 @@ fn start_form(start: u32) -> usize
 pub(crate) fn put_mode(room: &[u32], mode: u32, page: &mut [u8], n: usize) -> usize
     ensures { λ r. ⌜ Shown (modeText (now (room .entry)) mode) n (now (page .entry)) r (now (page .exit)) ⌝ }
 {
-    let start = start_number(modes::mode_start(room, mode));
+    let start = start_number(look_modes::mode_start(room, mode));
     put_form(start_form(start), mode as u64, start as u64, 0, page, n)
 }
 

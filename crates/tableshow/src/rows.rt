@@ -3,7 +3,7 @@ ghost use mathlib.Core.Path.{_≡_};
 ghost use mathlib.Core.List.{[], _∷_};
 ghost use Prim.Native.Nat.{ℕ, _+_, _*_, _^_, _<_};
 ghost use lib.ListN.{getD};
-ghost use Rattle.room_read.specs.Answer.{said};
+ghost use Rattle.room_find.specs.Answer.{said};
 ghost use Rattle.tableshow.specs.Shown.{Shown, joined};
 ghost use Rattle.tableshow.specs.Names.{range, target};
 ghost use Rattle.tableshow.specs.Texts.{escapes-label};
@@ -12,8 +12,8 @@ ghost use Rattle.tableshow.specs.Rows.{gap, after, ending, item, orElse,
 ghost use Rattle.tableshow.specs.Rows.{rowText, listed, runAt, wideAt, escapesAt, wideRow, firstWith, wideWith, wideText, escapesText};
 use crate::forms;
 use crate::text::put_form;
-use room_read::Answer;
-use rules::word_at;
+use room_find::Answer;
+use rule_words::word_at;
 
 // A range behind what parts it from the one before: `items` says how many stand on the line.
 fn gap_form(items: u32) -> usize
@@ -81,7 +81,7 @@ fn target_on(room: &[u32], state: u16, symbol: u32) -> u32
     ensures { λ r. ⌜ r ≡ targetOn (now (room .entry)) state symbol ⌝ }
 {
     if symbol < 128 {
-        return number_or(targets::ascii_target(room, state, symbol as u8), 65535);
+        return number_or(look_targets::ascii_target(room, state, symbol as u8), 65535);
     }
     65535
 }

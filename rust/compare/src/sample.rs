@@ -28,7 +28,7 @@ const EACH: usize = 600;
 /// The programs, and the sample of each.
 pub fn all() -> [(&'static str, Vec<u8>); 4] {
     [
-        ("replay", bytes()),
+        ("replay_runs", bytes()),
         ("replay_lookups", lookups::bytes()),
         ("replay_rows", rows::bytes()),
         ("replay_forms", forms::bytes()),

@@ -48,14 +48,14 @@ use denote.Triple.Table.{entered, cited}
 use denote.Triple.Walked.{says, Stays, stay-none, walkOf, goes-none, Walks, ends-at, walked, walk-meets}
 use denote.Triple.Clauses.{ensured, lasts}
 use denote.Exit.{yes}
-use Rattle.wide_range.specs.declared.WideRange.{WideRange}
-use Rattle.wide_range.specs.Ranges.{targetIn}
-use Rattle.wide_range.proofs.WideRange as T
-use Rattle.wide_range.proofs.WideRange.Laws as T′
-use Rattle.wide_range.proofs.wide_target as wide-target
-use Rattle.wide_range.proofs.wide_target.Symbol as wide-target-def
-use Rattle.wide_range.proofs.wide_target.Symbol.{name as #wide-target}
-use Rattle.wide_range.proofs.wide_target.Met as wide-target-thm
+use Rattle.look_row.specs.declared.WideRange.{WideRange}
+use Rattle.look_row.specs.Ranges.{targetIn}
+use Rattle.look_row.proofs.WideRange as T
+use Rattle.look_row.proofs.WideRange.Laws as T′
+use Rattle.look_row.proofs.wide_target as wide-target
+use Rattle.look_row.proofs.wide_target.Symbol as wide-target-def
+use Rattle.look_row.proofs.wide_target.Symbol.{name as #wide-target}
+use Rattle.look_row.proofs.wide_target.Met as wide-target-thm
 use Rattle.replay_forms.proofs.target_in.Key.{name as #target-in}
 use Rattle.replay_forms.proofs.target_in as target-in
 use Rattle.replay_forms.proofs.target_in.Statement as stated
@@ -219,4 +219,4 @@ target-in-spec 𝓤 H 𝓜 𝓖 𝓡 =
     (tables 𝓤 H 𝓜 𝓡 code.env .C) (tables 𝓤 H 𝓜 𝓡 code.env .Λ) #target-in code.function (code.unfolded 𝓤 H 𝓜 𝓡)
     (target-in-meets 𝓤 H (𝓖 .A) (givenOf 𝓤 H 𝓜 𝓖) (𝓜 .mem) (𝓡 .run) (tablesOf 𝓤 H 𝓜 (tables 𝓤 H 𝓜 𝓡 code.env))
     (cited 𝓤 H (WideTarget 𝓤 H (𝓖 .A) (𝓜 .mem) (𝓡 .run)) 𝓜 𝓡 code.env #wide-target wide-target-def.routine
-    code.calls-wide-range·wide-target (wide-target-thm.met 𝓤 H 𝓜 𝓖 𝓡)))
+    code.calls-look-row·wide-target (wide-target-thm.met 𝓤 H 𝓜 𝓖 𝓡)))

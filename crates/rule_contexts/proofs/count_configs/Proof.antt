@@ -1,9 +1,9 @@
 -- By the law of every loop that counts the records that pass. The measure is how many are left.
 use Prim.Native.Nat.{_-_}
 use mathlib.Core.Path.{_≡_}
-use Rattle.words.specs.Records.{configAt}
-use Rattle.rules.specs.Rules.{passing}
-use Rattle.rules.proofs.Laws.{counting}
+use Rattle.word_reader.specs.Records.{configAt}
+use Rattle.rule_words.specs.Rules.{passing}
+use Rattle.rule_words.proofs.Laws.{counting}
 use Rattle.rule_contexts.specs.Asked.{configPasses}
 use Rattle.rule_contexts.proofs.count_configs.Statement.{statement}
 use Rattle.rule_contexts.proofs.count_configs.Tie as tie

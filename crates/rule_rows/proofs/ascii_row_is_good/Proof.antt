@@ -1,8 +1,8 @@
 -- By the law of every walk over records of a fixed size: what is left, judged from here, gives what all gives. The measure is how many are left.
 use Prim.Native.Nat.{_+_}
 use mathlib.Core.Path.{_≡_}
-use Rattle.rules.specs.Rules.{bothGood, eachWord}
-use Rattle.rules.proofs.Laws.{striding}
+use Rattle.rule_words.specs.Rules.{bothGood, eachWord}
+use Rattle.rule_words.proofs.Laws.{striding}
 use Rattle.rule_rows.proofs.ascii_row_is_good.Statement.{statement}
 use Rattle.rule_rows.proofs.ascii_row_is_good.Tie as tie
 

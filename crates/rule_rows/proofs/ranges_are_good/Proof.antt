@@ -2,7 +2,7 @@
 use Prim.Native.Nat.{_+_, _*_}
 use mathlib.Core.Path.{_≡_}
 use mathlib.Core.Bool.{_&&_}
-use Rattle.rules.specs.Rules.{searchable, thirds}
+use Rattle.rule_words.specs.Rules.{searchable, thirds}
 use Rattle.rule_rows.specs.Thirds.{thirdGood}
 use Rattle.rule_rows.proofs.Tests.{rangesGood, ranging}
 use Rattle.rule_rows.proofs.ranges_are_good.Statement.{statement}

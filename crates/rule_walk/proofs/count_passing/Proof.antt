@@ -1,9 +1,9 @@
 -- By the law of every loop that counts the records that pass. The measure is how many are left.
 use Prim.Native.Nat.{_-_}
 use mathlib.Core.Path.{_≡_}
-use Rattle.records.specs.Kinds.{recordAt}
-use Rattle.rules.specs.Rules.{passing}
-use Rattle.rules.proofs.Laws.{counting}
+use Rattle.word_sections.specs.Kinds.{recordAt}
+use Rattle.rule_words.specs.Rules.{passing}
+use Rattle.rule_words.proofs.Laws.{counting}
 use Rattle.rule_walk.specs.Questions.{passes}
 use Rattle.rule_walk.proofs.count_passing.Statement.{statement}
 use Rattle.rule_walk.proofs.count_passing.Tie as tie

@@ -1,5 +1,5 @@
 -- The skipped bytes are at most all, so that the front part is there.
-use Rattle.ascii_run.specs.Shape.{shape}
+use Rattle.run_shape.specs.Shape.{shape}
 use Rattle.run_scan.proofs.Scans.{front}
 use Prim.Native.Nat.{ℕ}
 use mathlib.Core.Path.{refl, ap, sym}

@@ -120,7 +120,7 @@ fn sample_of(program: &str) -> String {
 }
 
 fn sample() -> Result<Check, String> {
-    for program in ["replay", "replay_lookups", "replay_rows", "replay_forms"] {
+    for program in ["replay_runs", "replay_lookups", "replay_rows", "replay_forms"] {
         if !std::path::Path::new(&sample_of(program)).exists() {
             return Err(format!("crates/{program}/stdin is not there"));
         }

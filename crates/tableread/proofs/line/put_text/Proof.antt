@@ -1,7 +1,7 @@
 -- By the law of every loop that writes: what is left of the text, written from here, gives what all of it gives.
 use Prim.Native.Nat.{_-_}
 use lib.ListN.{length, drop}
-use Rattle.written.proofs.Going.{Going}
+use Rattle.buffer.proofs.Going.{Going}
 use Rattle.tableread.proofs.Lines.{texts}
 use Rattle.tableread.proofs.line.put_text.Statement.{statement}
 use Rattle.tableread.proofs.line.put_text.Tie as tie

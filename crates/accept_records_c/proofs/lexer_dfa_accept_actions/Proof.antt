@@ -1,7 +1,0 @@
--- The answer in C is that of the call.
-use Rattle.accept_records_c.proofs.Calls.{calling}
-use Rattle.accept_records_c.proofs.lexer_dfa_accept_actions.Statement.{statement}
-use Rattle.accept_records_c.proofs.lexer_dfa_accept_actions.Tie as tie
-
-pub lexer-dfa-accept-actions-spec : {M : Type 1} → statement M
-lexer-dfa-accept-actions-spec = tie.close (tie.spec (λ c κs. search calling) (λ c. search calling))

@@ -1,8 +1,0 @@
--- The parts are as the answer has them.
-use borrow.Author.Needs.{needs}
-use Rattle.ascii_run.proofs.Answers.{refuses}
-use Rattle.ascii_run.proofs.refuse.Statement.{statement}
-use Rattle.ascii_run.proofs.refuse.Tie as tie
-
-pub refuse-spec : {M : Type 1} → statement M
-refuse-spec = tie.close (tie.spec (λ c κs. search needs) (λ c. search refuses))

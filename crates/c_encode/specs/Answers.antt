@@ -1,0 +1,9 @@
+-- The answer of encoding in C: a number of 0 and how many words there are, or the refusal's number and place. Assumes nothing.
+use lib.ListN.{getD}
+use Rattle.refusal.specs.Said.{Said, ok, no}
+use Rattle.c_encode.specs.declared.CWritten.{CWritten}
+
+-- how many numbers were written
+abbrev pub writtenInC : Said → CWritten
+writtenInC (ok l) = record { number = 0; place = 0; length = getD l 0 0 }
+writtenInC (no n p) = record { number = n; place = p; length = 0 }

@@ -1,0 +1,12 @@
+-- The answer in C is what the call says, case by case.
+use Rattle.c_transitions.proofs.Calls.{calling}
+use Rattle.c_transitions.proofs.lexer_dfa_read_transitions.Statement.{statement}
+use Rattle.c_transitions.proofs.lexer_dfa_read_transitions.Tie as tie
+
+pub lexer-dfa-read-transitions-spec : {M : Type 1} → statement M
+lexer-dfa-read-transitions-spec =
+    tie.close
+    (tie.spec
+    (λ c κs. search calling)
+    (λ c κs. search calling)
+    (λ c. search calling))

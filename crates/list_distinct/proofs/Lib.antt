@@ -1,0 +1,4 @@
+pub mod Parts
+pub mod Distincts
+pub mod PlaceAnswers
+pub mod DistinctAnswers

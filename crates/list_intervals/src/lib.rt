@@ -1,0 +1,205 @@
+// The intervals of a list of transitions: both ends of each are written into a lent buffer. A list may be of any length and hold any bytes.
+// `transitions` judges it first, so that the records of an accepted list are walked here without a test. It has its own functions for
+// the bytes of a number and of a length: they ask their caller that the bytes are there, and no public function asks anything.
+ghost use mathlib.Core.Path.{_≡_};
+ghost use mathlib.Core.List.{[]};
+ghost use mathlib.Core.Bool.{true};
+ghost use Prim.Native.Nat.{suc, _+_, _*_, _-_, _≤_, _<_, max, min};
+ghost use lib.ListN.{length};
+ghost use Rattle.buffer.specs.Over.{Put};
+ghost use Rattle.list_transitions.specs.Transition.{origin};
+ghost use Rattle.list_transitions.specs.Intervals.{clip, clips, gaps, intervals, ends, endsAll};
+ghost use Rattle.list_transitions.specs.Bytes.{numberAt, sizeAt, pairsAt, shapeOf, transOf};
+ghost use Rattle.list_transitions.specs.Read.{parse, isParsed, accepted};
+ghost use Rattle.list_intervals.specs.Ends.{parseInto, Writes};
+use list_transitions::Transitions;
+use refusal::ROOM;
+use refusal::Refusal;
+
+// The key of the point 0, the key behind the last point, and how many points there are.
+const ORIGIN: u64 = 2147483648;
+
+const BEYOND: u64 = 2148597760;
+
+const POINTS: u32 = 1114112;
+
+// Both ends of the most intervals that a list may have.
+const ENDS: usize = 2048;
+
+fn wide(x: u8) -> u64
+    ensures { λ r. ⌜ (r ≡ x) × (r < 256) ⌝ }
+{
+    x as u64
+}
+
+fn size_at(list: &[u8], p: usize) -> usize
+    requires { ⌜ p + 2 ≤ length (now list) ⌝ }
+    ensures { λ r. ⌜ (r ≡ sizeAt (now (list .entry)) p) × (r < 65536) ⌝ }
+{
+    let a = wide(list[p]);
+    let b = wide(list[p + 1]);
+    (a + 256 * b) as usize
+}
+
+// The key of the number whose four bytes start at p.
+fn number_at(list: &[u8], p: usize) -> u64
+    requires { ⌜ p + 4 ≤ length (now list) ⌝ }
+    ensures { λ r. ⌜ (r ≡ numberAt (now (list .entry)) p) × (r < 4294967296) ⌝ }
+{
+    let low = size_at(list, p);
+    let high = size_at(list, p + 2);
+    ((low + 65536 * high) as u64 + ORIGIN) % 4294967296
+}
+
+// The first key that is left of a not-set, behind the pair that ends with `high`.
+fn next_after(next: u64, high: u64) -> u64
+    requires { ⌜ (next ≤ 4294967296) × (high < 4294967296) ⌝ }
+    ensures { λ r. ⌜ (r ≡ max next (suc high)) × (r ≤ 4294967296) ⌝ }
+{
+    if next <= high {
+        return high + 1;
+    }
+    next
+}
+
+// The point of the key a, or 0 before the points.
+fn low_of(a: u64) -> u32
+    requires { ⌜ a ≤ 4294967296 ⌝ }
+    ensures { λ r. ⌜ r ≡ a - 2147483648 ⌝ }
+{
+    if a <= ORIGIN {
+        return 0;
+    }
+    (a - ORIGIN) as u32
+}
+
+fn end_of(b: u64) -> u32
+    requires { ⌜ b ≤ 4294967296 ⌝ }
+    ensures { λ r. ⌜ r ≡ min (b - 2147483648) 1114112 ⌝ }
+{
+    if b <= ORIGIN {
+        return 0;
+    }
+    if b <= BEYOND {
+        return (b - ORIGIN) as u32;
+    }
+    POINTS
+}
+
+// Writes both ends of the points whose keys are from a to before b, where there is one, and answers the next place.
+fn put_span(out: &mut [u32], n: usize, a: u64, b: u64) -> usize
+    requires room { ⌜ n + length (ends (clip a b [])) ≤ length (now out) ⌝ }
+    requires fits { ⌜ (a ≤ 4294967296) × (b ≤ 4294967296) ⌝ }
+    ensures { λ r. ⌜ Put (ends (clip a b [])) n (now (out .entry)) r (now (out .exit)) ⌝ }
+{
+    let low = low_of(a);
+    let end = end_of(b);
+    if end <= low {
+        return n;
+    }
+    out[n] = low;
+    out[n + 1] = end;
+    n + 2
+}
+
+// The ends of a set's intervals ..
+fn put_clips(list: &[u8], p: usize, count: usize, out: &mut [u32], n: usize) -> usize
+    requires bytes { ⌜ p + 8 * count ≤ length (now list) ⌝ }
+    requires room { ⌜ n + length (ends (clips (pairsAt (now list) count p))) ≤ length (now out) ⌝ }
+    ensures { λ r. ⌜ Put (ends (clips (pairsAt (now (list .entry)) count p))) n (now (out .entry)) r (now (out .exit)) ⌝ }
+{
+    let mut here = p;
+    let mut left = count;
+    let mut m = n;
+    while 0 < left {
+        let low = number_at(list, here);
+        let high = number_at(list, here + 4);
+        m = put_span(out, m, low, high + 1);
+        here += 8;
+        left -= 1;
+    }
+    m
+}
+
+// .. and of a not-set's.
+fn put_gaps(list: &[u8], p: usize, count: usize, out: &mut [u32], n: usize) -> usize
+    requires bytes { ⌜ p + 8 * count ≤ length (now list) ⌝ }
+    requires room { ⌜ n + length (ends (gaps origin (pairsAt (now list) count p))) ≤ length (now out) ⌝ }
+    ensures { λ r. ⌜ Put (ends (gaps origin (pairsAt (now (list .entry)) count p))) n (now (out .entry)) r (now (out .exit)) ⌝ }
+{
+    let mut next = ORIGIN;
+    let mut here = p;
+    let mut left = count;
+    let mut m = n;
+    while 0 < left {
+        let low = number_at(list, here);
+        let high = number_at(list, here + 4);
+        m = put_span(out, m, next, low);
+        next = next_after(next, high);
+        here += 8;
+        left -= 1;
+    }
+    put_span(out, m, next, BEYOND)
+}
+
+fn put_ends(list: &[u8], tag: u8, size: usize, p: usize, out: &mut [u32], n: usize) -> usize
+    requires bytes { ⌜ p + size ≤ length (now list) ⌝ }
+    requires fits { ⌜ shapeOf tag size ≡ true ⌝ }
+    requires room { ⌜ n + length (ends (intervals (transOf (now list) tag size p))) ≤ length (now out) ⌝ }
+    ensures { λ r. ⌜ Put (ends (intervals (transOf (now (list .entry)) tag size p))) n (now (out .entry)) r (now (out .exit)) ⌝ }
+{
+    if tag == 1 {
+        let k = number_at(list, p);
+        return put_span(out, n, k, k + 1);
+    }
+    if tag == 2 {
+        let low = number_at(list, p);
+        let high = number_at(list, p + 4);
+        return put_span(out, n, low, high + 1);
+    }
+    if tag == 3 {
+        return put_clips(list, p, size / 8, out, n);
+    }
+    if tag == 4 {
+        return put_gaps(list, p, size / 8, out, n);
+    }
+    put_span(out, n, ORIGIN, BEYOND)
+}
+
+// Writes the ends of all intervals of an accepted list, and answers how many.
+fn gather(list: &[u8], out: &mut [u32]) -> usize
+    requires good { ⌜ isParsed (parse (now list)) ≡ true ⌝ }
+    requires room { ⌜ 2048 ≤ length (now out) ⌝ }
+    ensures { λ r. ⌜ Put (endsAll (accepted (parse (now (list .entry))))) 0 (now (out .entry)) r (now (out .exit)) ⌝ }
+{
+    let mut at: usize = 0;
+    let mut n: usize = 0;
+    while at < list.len() {
+        let tag = list[at];
+        let size = size_at(list, at + 1);
+        n = put_ends(list, tag, size, at + 3, out, n);
+        at = at + 3 + size;
+    }
+    n
+}
+
+// Both ends of every interval, the low and the high + 1, in the order of the records. Refused: every number of the buffer is 0.
+// Accepted: twice as many numbers as there are intervals, then zeros.
+pub fn read_intervals(list: &[u8], out: &mut [u32]) -> Transitions
+    ensures { λ r. ⌜ Writes r (length (now (out .entry))) (now (out .exit)) (parseInto (length (now (out .entry))) (now (list .entry))) ⌝ }
+{
+    buffer::clear(out);
+    if out.len() < ENDS {
+        return Transitions::Refused(Refusal {
+            number: ROOM,
+            place: 0,
+        });
+    }
+    match list_transitions::read_transitions(list) {
+        Transitions::Read { count, intervals } => {
+            gather(list, out);
+            Transitions::Read { count, intervals }
+        }
+        Transitions::Refused(r) => Transitions::Refused(r),
+    }
+}

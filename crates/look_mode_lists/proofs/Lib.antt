@@ -1,0 +1,5 @@
+pub mod Lists
+pub mod Flags
+pub mod Walks
+pub mod Gaps
+pub mod Answers

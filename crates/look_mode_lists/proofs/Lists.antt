@@ -1,0 +1,43 @@
+-- What a call that writes a list answers and leaves in the buffer: d is the buffer of zeros, new what it holds at the end. Assumes nothing.
+use Prim.Native.Nat.{ℕ, _≤_}
+use native.Mathlib.Omega.{arith}
+use mathlib.Core.Path.{_≡_, refl, sym, ap, _∙_}
+use mathlib.Core.List.{List, [], _∷_}
+use lib.ListN.{length, getD, length-replicate}
+use Rattle.refusal.specs.Said.{Said, ok, no}
+use Rattle.buffer.specs.Over.{lay, Put, zeros}
+use Rattle.buffer.proofs.Overs.{lay-zeros}
+use Rattle.look_mode_lists.specs.declared.Listed.{Listed}
+use Rattle.look_mode_lists.specs.declared.Listed.the-variants.{Numbers, Refused}
+use Rattle.look_mode_lists.specs.Written.{wrote, refused, said, Writes}
+
+-- a list that was written over zeros
+pub written : (l d : List ℕ) {r : ℕ} {new : List ℕ} → length l ≤ length d → d ≡ zeros (length d) → Put l 0 d r new → Writes (Numbers r) (length d) new (wrote l)
+written l d {r} h z p =
+    let n : r ≡ length l = omega (arith, p .next) in
+    record { says = ap (λ (k : ℕ). ok (k ∷ [])) n; leaves = p .is ∙ ap (lay 0 l) z ∙ lay-zeros (length d) l h }
+
+-- a refusal, with nothing written
+pub unwritten : (d : List ℕ) {n p : ℕ} → d ≡ zeros (length d) → Writes (Refused (record { number = n; place = p })) (length d) d (refused n p)
+unwritten d z = record { says = refl; leaves = z }
+
+-- The buffer was cleared first
+
+module _ (old : List ℕ) {d : List ℕ} (z : d ≡ zeros (length old)) where
+  pub cleared-length : length d ≡ length old
+  cleared-length = ap length z ∙ length-replicate (length old) 0
+
+  pub cleared : d ≡ zeros (length d)
+  cleared = z ∙ ap zeros (sym cleared-length)
+
+-- `said` takes no two answers to one: what it says gives the answer back
+abbrev back : Said → Listed
+back (ok l) = Numbers (getD l 0 0)
+back (no n p) = Refused (record { number = n; place = p })
+
+back-said : (x : Listed) → back (said x) ≡ x
+back-said (Numbers n) = refl
+back-said (Refused r) = refl
+
+pub said-one : (x y : Listed) → said x ≡ said y → x ≡ y
+said-one x y e = sym (back-said x) ∙ ap back e ∙ back-said y

@@ -1,0 +1,5 @@
+pub mod Numbers
+pub mod StartLaws
+pub mod Tests
+pub mod AllModesLaws
+pub mod CompiledLaws

@@ -1,0 +1,15 @@
+-- Each answer is the case that the tests on the way say.
+use Rattle.look_modes.proofs.AllModesLaws.{cases}
+use Rattle.look_modes.proofs.modes_in.Statement.{statement}
+use Rattle.look_modes.proofs.modes_in.Tie as tie
+
+pub modes-in-spec : {M : Type 1} → statement M
+modes-in-spec =
+    tie.close
+    (tie.spec
+    (λ c. search cases)
+    (λ c. search cases)
+    (λ c κs. search cases)
+    (λ c. search cases)
+    (λ c. search cases)
+    (λ c. search cases))

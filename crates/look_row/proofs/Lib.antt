@@ -1,0 +1,4 @@
+pub mod Searches
+pub mod Laws
+pub mod Equal
+pub mod Unique

@@ -1,0 +1,2 @@
+pub mod RunPlaces
+pub mod StateRun

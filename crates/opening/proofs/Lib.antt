@@ -1,4 +1,0 @@
-pub mod Laws
-pub mod Opens
-pub mod Said
-pub mod Unique

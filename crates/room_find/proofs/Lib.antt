@@ -1,0 +1,6 @@
+pub mod Records
+pub mod Searches
+pub mod Spans
+pub mod There
+pub mod Answers
+pub mod Laws

@@ -1,0 +1,17 @@
+-- Each answer is the case that the tests on the way say.
+use Rattle.room_find.specs.Room.{recordIn}
+use Rattle.room_find.proofs.Records.{cases}
+use Rattle.room_find.proofs.record_in.Statement.{statement}
+use Rattle.room_find.proofs.record_in.Tie as tie
+
+pub record-in-spec : {M : Type 1} → statement M
+unfolding recordIn
+record-in-spec =
+    tie.close
+    (tie.spec
+    (λ c. search cases)
+    (λ c. search cases)
+    (λ c κs. search cases)
+    (λ c. search cases)
+    (λ c. search cases)
+    (λ c. search cases))

@@ -1,0 +1,4 @@
+pub mod Room
+pub mod Answer
+pub mod Search
+pub mod Part

@@ -1,5 +1,0 @@
-pub mod Header
-pub mod Room
-pub mod Answer
-pub mod Search
-pub mod Part

@@ -1,3 +1,0 @@
-pub mod Parts
-pub mod Said
-pub mod Unique

@@ -1,7 +1,0 @@
--- What is told of a state is told in C in one way, since the contract is an equation. Assumes nothing.
-use mathlib.Core.Path.{sym, _∙_}
-use Rattle.value_c.proofs.value_in_c.Reads as value-in-c
-use Rattle.unique.specs.Unique.{Determines}
-
-pub c-value-unique : Determines value-in-c.Learnt
-c-value-unique κs a x y e f p q = p ∙ sym q
