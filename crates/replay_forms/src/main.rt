@@ -8,14 +8,22 @@
 //
 // It prints how many records it replayed and how many of our answers differ, and how many bytes stand behind the last whole record, which must be none.
 use libc::STDIN_FILENO;
+use libc::STDOUT_FILENO;
 use look_row::WideRange;
 use replay_io::read;
-use replay_io::tally::print;
 use word_serialized::Opening;
 ghost use mathlib.Core.Path.{_≡_};
 ghost use Rattle.look_row.specs.Ranges.{targetIn};
 
 const RECORD: usize = 46;
+
+// Two numbers, and what stands behind each. Each program has its own: no contract can say what is written, and no public function goes without one.
+fn print(first: usize, behind: &[u8], second: usize, end: &[u8]) {
+    io::print_decimal(STDOUT_FILENO, first as u64);
+    io::write_all(STDOUT_FILENO, behind);
+    io::print_decimal(STDOUT_FILENO, second as u64);
+    io::write_all(STDOUT_FILENO, end);
+}
 
 // The row is a local that is lent as a slice, which is walked by hand; what calls this is not.
 fn target_in(row: [WideRange; 4], symbol: u32) -> u16

@@ -16,6 +16,7 @@ use Rattle.replay_io.proofs.check.of_words.Reads as of-words
 use Rattle.replay_io.proofs.check.of_masks.Reads as of-masks
 use Rattle.replay_io.proofs.check.short.Reads as short
 use Rattle.replay_io.proofs.tally.count.Reads as count
+use Rattle.replay_io.proofs.tally.told.Reads as told
 use Rattle.law_unique.specs.Unique.{Determines, DeterminesPart, DeterminesBoth}
 
 pub byte-unique : Determines byte.Learnt
@@ -62,3 +63,6 @@ short-unique κs a x y e f p q = p ∙ sym q
 
 pub count-unique : DeterminesBoth (λ κs e. e .0) count.Learnt
 count-unique κs a x y e f p q = (p .1 .0 ∙ sym (q .1 .0), p .1 .1 ∙ sym (q .1 .1))
+
+pub told-unique : Determines told.Learnt
+told-unique κs a x y e f p q = p ∙ sym q

@@ -1,11 +1,10 @@
-// Counts the answers of each kind that are equal and those that differ, and prints the counts. The kinds are numbers from 1 on: how many answers of kind
+// Counts the answers of each kind that are equal and those that differ. The kinds are numbers from 1 on: how many answers of kind
 // k are equal stands at place 2 k of the counts, and how many differ behind it.
 ghost use mathlib.Core.Path.{_≡_};
 ghost use Prim.Native.Nat.{_≤_};
 ghost use lib.ListN.{length, getD};
 ghost use Rattle.replay_io.specs.Tally.{placeOf, counted, taken, oneMore};
 use crate::read;
-use libc::STDOUT_FILENO;
 
 // What came of a record: how many bytes it has behind its first, and whether our answer is the recorded one.
 pub struct Replayed {
@@ -49,14 +48,6 @@ pub fn count(counts: &mut [usize], rest: &[u8], replayed: Replayed) -> usize
     1 + more
 }
 
-// Two numbers, and what stands behind each.
-pub fn print(first: usize, behind: &[u8], second: usize, end: &[u8]) {
-    io::print_decimal(STDOUT_FILENO, first as u64);
-    io::write_all(STDOUT_FILENO, behind);
-    io::print_decimal(STDOUT_FILENO, second as u64);
-    io::write_all(STDOUT_FILENO, end);
-}
-
 fn count_at(counts: &[usize], place: usize) -> usize
     ensures { λ r. ⌜ r ≡ getD (now (counts .entry)) place 0 ⌝ }
 {
@@ -67,10 +58,9 @@ fn count_at(counts: &[usize], place: usize) -> usize
     }
 }
 
-// The line of a kind, whose name ends the line.
-pub fn print_kind(counts: &[usize], kind: u8, name: &[u8]) {
-    let equal = count_at(counts, place_of(kind, true));
-    let differ = count_at(counts, place_of(kind, false));
-    print(equal, b" equal, ", differ, b" differ: ");
-    io::write_all(STDOUT_FILENO, name);
+// How many answers of a kind are equal, or differ.
+pub fn told(counts: &[usize], kind: u8, same: bool) -> usize
+    ensures { λ r. ⌜ r ≡ getD (now (counts .entry)) (placeOf kind same) 0 ⌝ }
+{
+    count_at(counts, place_of(kind, same))
 }

@@ -23,6 +23,7 @@ mod lists;
 mod lookups;
 
 use libc::STDIN_FILENO;
+use libc::STDOUT_FILENO;
 use refusal::ROOM_NUMBERS;
 use replay_io::read;
 use replay_io::tally;
@@ -65,28 +66,44 @@ fn replay_table(sample: &[u8], counts: &mut [usize]) -> usize {
     }
 }
 
+// Two numbers, and what stands behind each. Each program has its own: no contract can say what is written, and no public function goes without one.
+fn print(first: usize, behind: &[u8], second: usize, end: &[u8]) {
+    io::print_decimal(STDOUT_FILENO, first as u64);
+    io::write_all(STDOUT_FILENO, behind);
+    io::print_decimal(STDOUT_FILENO, second as u64);
+    io::write_all(STDOUT_FILENO, end);
+}
+
+// The line of a kind, whose name ends the line.
+fn print_kind(counts: &[usize], kind: u8, name: &[u8]) {
+    let equal = tally::told(counts, kind, true);
+    let differ = tally::told(counts, kind, false);
+    print(equal, b" equal, ", differ, b" differ: ");
+    io::write_all(STDOUT_FILENO, name);
+}
+
 // The name of each kind ends its line.
 fn print_kinds(counts: &[usize]) {
-    tally::print_kind(counts, 1, b"         mode_start\n");
-    tally::print_kind(counts, 2, b"        state_count\n");
-    tally::print_kind(counts, 3, b"             accept\n");
-    tally::print_kind(counts, 4, b"       ascii_target\n");
-    tally::print_kind(counts, 5, b"        char_target\n");
-    tally::print_kind(counts, 6, b"         eof_target\n");
-    tally::print_kind(counts, 7, b"  char_continuation\n");
-    tally::print_kind(counts, 8, b"   eof_continuation\n");
-    tally::print_kind(counts, 9, b"           coverage\n");
-    tally::print_kind(counts, 10, b"     scan_ascii_run\n");
-    tally::print_kind(counts, 11, b"compiled_mode_flags\n");
-    tally::print_kind(counts, 12, b"  mode_state_counts\n");
-    tally::print_kind(counts, 13, b"             encode\n");
+    print_kind(counts, 1, b"         mode_start\n");
+    print_kind(counts, 2, b"        state_count\n");
+    print_kind(counts, 3, b"             accept\n");
+    print_kind(counts, 4, b"       ascii_target\n");
+    print_kind(counts, 5, b"        char_target\n");
+    print_kind(counts, 6, b"         eof_target\n");
+    print_kind(counts, 7, b"  char_continuation\n");
+    print_kind(counts, 8, b"   eof_continuation\n");
+    print_kind(counts, 9, b"           coverage\n");
+    print_kind(counts, 10, b"     scan_ascii_run\n");
+    print_kind(counts, 11, b"compiled_mode_flags\n");
+    print_kind(counts, 12, b"  mode_state_counts\n");
+    print_kind(counts, 13, b"             encode\n");
 }
 
 // Two counts for each kind, from 0 on.
 fn report(sample: &[u8]) {
     let mut counts = [0usize; 28];
     let at = replay_table(sample, &mut counts);
-    tally::print(at, b" of ", sample.len(), b" bytes\n");
+    print(at, b" of ", sample.len(), b" bytes\n");
     print_kinds(&counts);
 }
 

@@ -17,6 +17,7 @@ mod interned;
 mod lists;
 
 use libc::STDIN_FILENO;
+use libc::STDOUT_FILENO;
 use replay_io::read;
 use replay_io::tally;
 use replay_io::tally::Replayed;
@@ -46,22 +47,38 @@ fn replay(sample: &[u8], counts: &mut [usize]) -> usize {
     at
 }
 
+// Two numbers, and what stands behind each. Each program has its own: no contract can say what is written, and no public function goes without one.
+fn print(first: usize, behind: &[u8], second: usize, end: &[u8]) {
+    io::print_decimal(STDOUT_FILENO, first as u64);
+    io::write_all(STDOUT_FILENO, behind);
+    io::print_decimal(STDOUT_FILENO, second as u64);
+    io::write_all(STDOUT_FILENO, end);
+}
+
+// The line of a kind, whose name ends the line.
+fn print_kind(counts: &[usize], kind: u8, name: &[u8]) {
+    let equal = tally::told(counts, kind, true);
+    let differ = tally::told(counts, kind, false);
+    print(equal, b" equal, ", differ, b" differ: ");
+    io::write_all(STDOUT_FILENO, name);
+}
+
 // The name of each kind ends its line.
 fn print_kinds(counts: &[usize]) {
-    tally::print_kind(counts, 1, b"     read_intervals\n");
-    tally::print_kind(counts, 2, b"      char_segments\n");
-    tally::print_kind(counts, 3, b"segment_mask_matrix\n");
-    tally::print_kind(counts, 4, b"     distinct_masks\n");
-    tally::print_kind(counts, 5, b"         build_rows\n");
-    tally::print_kind(counts, 6, b"       intern_ascii\n");
-    tally::print_kind(counts, 7, b"        intern_wide\n");
+    print_kind(counts, 1, b"     read_intervals\n");
+    print_kind(counts, 2, b"      char_segments\n");
+    print_kind(counts, 3, b"segment_mask_matrix\n");
+    print_kind(counts, 4, b"     distinct_masks\n");
+    print_kind(counts, 5, b"         build_rows\n");
+    print_kind(counts, 6, b"       intern_ascii\n");
+    print_kind(counts, 7, b"        intern_wide\n");
 }
 
 // Two counts for each kind, from 0 on.
 fn report(sample: &[u8]) {
     let mut counts = [0usize; 16];
     let at = replay(sample, &mut counts);
-    tally::print(at, b" of ", sample.len(), b" bytes\n");
+    print(at, b" of ", sample.len(), b" bytes\n");
     print_kinds(&counts);
 }
 
