@@ -170,7 +170,7 @@ module _ (w : List ℕ) (s : Sections) (n : ℕ) (d : List ℕ) where
 
 -- Flags: each record of both sections is asked
 
-pub flags-plain : (w : List ℕ) (x c : ℕ) {p q : Bool} → p ≡ allPass Accept AcceptIsPlain w x → q ≡ allPass Continuation ContinuationIsPlain w c
+pub flags-plain : (w : List ℕ) (x c : ℕ) {p q : Bool} → p ≡ allPass AcceptIsPlain w x → q ≡ allPass ContinuationIsPlain w c
     → (p && q) ≡ flagsPlain w x c
 unfolding flagsPlain
 flags-plain w x c e f = rw (e ∙ in-section acceptAt (acceptPlain w) w x, f ∙ in-section continuationAt (continuationPlain w) w c)

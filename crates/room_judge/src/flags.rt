@@ -2,18 +2,12 @@
 ghost use mathlib.Core.Path.{_≡_};
 ghost use Rattle.room_judge.specs.Standing.{flagsPlain};
 use rule_walk::Question;
-use word_sections::Kind;
 
 // The flags of the accepts and of the continuations, whose counts stand at these places.
 pub(crate) fn flags_are_plain(words: &[u32], accepts: usize, continuations: usize) -> bool
     ensures { λ r. ⌜ r ≡ flagsPlain (now (words .entry)) accepts continuations ⌝ }
 {
-    let one = rule_walk::all_pass(Kind::Accept, Question::AcceptIsPlain, words, accepts);
-    let other = rule_walk::all_pass(
-        Kind::Continuation,
-        Question::ContinuationIsPlain,
-        words,
-        continuations,
-    );
+    let one = rule_walk::all_pass(Question::AcceptIsPlain, words, accepts);
+    let other = rule_walk::all_pass(Question::ContinuationIsPlain, words, continuations);
     one & other
 }

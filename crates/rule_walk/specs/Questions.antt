@@ -2,13 +2,25 @@
 use Prim.Native.Nat.{ℕ}
 use mathlib.Core.List.{List}
 use mathlib.Core.Bool.{Bool}
-use Rattle.word_sections.specs.declared.Kind.{Kind}
-use Rattle.word_sections.specs.Kinds.{recordAt}
+use Rattle.word_reader.specs.declared.Place.{Place}
+use Rattle.word_reader.specs.Records.{modeAt, stateAt, runAt, asciiAt, wideAt, acceptAt, escapeAt, continuationAt}
 use Rattle.rule_words.specs.Rules.{numberedIn, startGood, stateGood, runGood, asciiGood, wideGood, escapeGood, continuationGood}
 use Rattle.rule_words.specs.Flags.{acceptPlain, continuationPlain}
 use Rattle.rule_walk.specs.declared.Question.{Question}
 use Rattle.rule_walk.specs.declared.Question.the-variants.{StartIsState, StateIsValid, RunIsClassified, AsciiRowIsGood, WideRowIsSearchable}
 use Rattle.rule_walk.specs.declared.Question.the-variants.{EscapeRowIsValid, ContinuationIsValid, AcceptIsPlain, ContinuationIsPlain}
+
+-- the record that is asked, by the reader of its kind
+abbrev pub askedAt : Question → List ℕ → ℕ → Place
+askedAt (StartIsState ns) = modeAt
+askedAt (StateIsValid ns na nv nx) = stateAt
+askedAt (RunIsClassified s a) = runAt
+askedAt (AsciiRowIsGood ns) = asciiAt
+askedAt (WideRowIsSearchable ns) = wideAt
+askedAt (EscapeRowIsValid nc) = escapeAt
+askedAt ContinuationIsValid = continuationAt
+askedAt AcceptIsPlain = acceptAt
+askedAt ContinuationIsPlain = continuationAt
 
 -- the record of number i passes, at a place
 abbrev pub passes : Question → List ℕ → ℕ → ℕ → Bool
@@ -23,5 +35,5 @@ passes AcceptIsPlain w i = acceptPlain w
 passes ContinuationIsPlain w i = continuationPlain w
 
 -- each record of the section at `at` does
-abbrev pub allPass : Kind → Question → List ℕ → ℕ → Bool
-allPass k q w at = numberedIn (recordAt k) (passes q w) w at
+abbrev pub allPass : Question → List ℕ → ℕ → Bool
+allPass q w at = numberedIn (askedAt q) (passes q w) w at

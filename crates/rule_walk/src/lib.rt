@@ -1,12 +1,10 @@
 // The walk over the records of a section that asks something of each: one loop, whatever the kind of record and the question.
 // Above it each index rule that walks over records, 1, 2, 4, 5, 6, 8 and 9. All work on the words and the places of the sections' counts.
 ghost use mathlib.Core.Path.{_≡_};
-ghost use Rattle.word_sections.specs.Kinds.{recordAt};
 ghost use Rattle.rule_words.specs.Rules.{passing, rule1, rule2, rule4, rule5, rule6, rule8, rule9};
-ghost use Rattle.rule_walk.specs.Questions.{passes, allPass};
+ghost use Rattle.rule_walk.specs.Questions.{askedAt, passes, allPass};
 use rule_words::word_at;
 use word_reader::Place;
-use word_sections::Kind;
 
 // What is asked of a record, with the numbers that it is judged by: how many states, rows, accepts or continuations there are. A run is judged by
 // the places of the states' and the ASCII rows' counts.
@@ -28,6 +26,24 @@ pub enum Question {
     ContinuationIsValid,
     AcceptIsPlain,
     ContinuationIsPlain,
+}
+
+// Where the record that is asked ends. Each question knows its kind of record: so the loop below chooses a reader as it chooses a test, and keeps
+// the place in a register.
+fn read_asked(question: Question, words: &[u32], at: usize) -> Place
+    ensures { λ r. ⌜ r ≡ askedAt question (now (words .entry)) at ⌝ }
+{
+    match question {
+        Question::StartIsState(_) => word_records::read_mode(words, at),
+        Question::StateIsValid { .. } => word_records::read_state(words, at),
+        Question::RunIsClassified { .. } => word_records::read_run(words, at),
+        Question::AsciiRowIsGood(_) => word_records::read_ascii_row(words, at),
+        Question::WideRowIsSearchable(_) => word_records::read_wide_row(words, at),
+        Question::EscapeRowIsValid(_) => word_records::read_escape_row(words, at),
+        Question::ContinuationIsValid => word_records::read_continuation(words, at),
+        Question::AcceptIsPlain => word_records::read_accept(words, at),
+        Question::ContinuationIsPlain => word_records::read_continuation(words, at),
+    }
 }
 
 // The record of that number, at that place, passes.
@@ -59,13 +75,13 @@ fn passes(question: Question, words: &[u32], number: u32, at: usize) -> bool
 }
 
 // How many of `count` records from `at` pass before the first that does not. A record is read first: none is asked past the end.
-fn count_passing(kind: Kind, question: Question, words: &[u32], count: u32, at: usize) -> u32
-    ensures { λ r. ⌜ r ≡ passing (passes question (now (words .entry))) (recordAt kind (now (words .entry))) 0 count at ⌝ }
+fn count_passing(question: Question, words: &[u32], count: u32, at: usize) -> u32
+    ensures { λ r. ⌜ r ≡ passing (passes question (now (words .entry))) (askedAt question (now (words .entry))) 0 count at ⌝ }
 {
     let mut number: u32 = 0;
     let mut here = at;
     while number < count {
-        match word_sections::read_record(kind, words, here) {
+        match read_asked(question, words, here) {
             Place::Next(p) => {
                 if passes(question, words, number, here) {
                     here = p;
@@ -82,15 +98,15 @@ fn count_passing(kind: Kind, question: Question, words: &[u32], count: u32, at: 
     number
 }
 
-// Each record passes of the section of a kind, whose count stands at `at`.
-pub fn all_pass(kind: Kind, question: Question, words: &[u32], at: usize) -> bool
-    ensures { λ r. ⌜ r ≡ allPass kind question (now (words .entry)) at ⌝ }
+// Each record passes of the section whose count stands at `at`.
+pub fn all_pass(question: Question, words: &[u32], at: usize) -> bool
+    ensures { λ r. ⌜ r ≡ allPass question (now (words .entry)) at ⌝ }
 {
     if words.len() <= at {
         return true;
     }
     let count = words[at];
-    count_passing(kind, question, words, count, at + 1) == count
+    count_passing(question, words, count, at + 1) == count
 }
 
 // Rule 1: mode starts are states.
@@ -98,7 +114,7 @@ pub fn mode_starts_are_states(words: &[u32], modes: usize, states: usize) -> boo
     ensures { λ r. ⌜ r ≡ rule1 (now (words .entry)) modes states ⌝ }
 {
     let question = Question::StartIsState(word_at(words, states));
-    all_pass(Kind::Mode, question, words, modes)
+    all_pass(question, words, modes)
 }
 
 // Rule 2: each state's rows exist, its EOF target is good, its accept is NONE or exists.
@@ -117,7 +133,7 @@ pub fn states_are_valid(
         wide: word_at(words, wide_rows),
         accepts: word_at(words, accepts),
     };
-    all_pass(Kind::State, question, words, states)
+    all_pass(question, words, states)
 }
 
 // Rule 4: each run is the classification of its state's row.
@@ -125,7 +141,7 @@ pub fn runs_are_classified(words: &[u32], states: usize, runs: usize, ascii_rows
     ensures { λ r. ⌜ r ≡ rule4 (now (words .entry)) states runs «ascii_rows» ⌝ }
 {
     let question = Question::RunIsClassified { states, ascii_rows };
-    all_pass(Kind::AsciiRun, question, words, runs)
+    all_pass(question, words, runs)
 }
 
 // Rule 5: ASCII targets are good.
@@ -133,7 +149,7 @@ pub fn ascii_targets_are_good(words: &[u32], states: usize, ascii_rows: usize) -
     ensures { λ r. ⌜ r ≡ rule5 (now (words .entry)) states «ascii_rows» ⌝ }
 {
     let question = Question::AsciiRowIsGood(word_at(words, states));
-    all_pass(Kind::AsciiRow, question, words, ascii_rows)
+    all_pass(question, words, ascii_rows)
 }
 
 // Rule 6: wide rows are searchable, their targets good.
@@ -141,7 +157,7 @@ pub fn wide_rows_are_searchable(words: &[u32], states: usize, wide_rows: usize) 
     ensures { λ r. ⌜ r ≡ rule6 (now (words .entry)) states «wide_rows» ⌝ }
 {
     let question = Question::WideRowIsSearchable(word_at(words, states));
-    all_pass(Kind::WideRow, question, words, wide_rows)
+    all_pass(question, words, wide_rows)
 }
 
 // Rule 8: escape rows are searchable, the EOF continuation is NONE or present, the continuations are present.
@@ -149,17 +165,12 @@ pub fn escape_rows_are_valid(words: &[u32], escape_rows: usize, continuations: u
     ensures { λ r. ⌜ r ≡ rule8 (now (words .entry)) «escape_rows» continuations ⌝ }
 {
     let question = Question::EscapeRowIsValid(word_at(words, continuations));
-    all_pass(Kind::EscapeRow, question, words, escape_rows)
+    all_pass(question, words, escape_rows)
 }
 
 // Rule 9: contexts refer only below themselves; config contexts are at most the context count.
 pub fn continuation_contexts_are_valid(words: &[u32], continuations: usize) -> bool
     ensures { λ r. ⌜ r ≡ rule9 (now (words .entry)) continuations ⌝ }
 {
-    all_pass(
-        Kind::Continuation,
-        Question::ContinuationIsValid,
-        words,
-        continuations,
-    )
+    all_pass(Question::ContinuationIsValid, words, continuations)
 }
