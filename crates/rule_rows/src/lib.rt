@@ -4,7 +4,7 @@ ghost use mathlib.Core.Path.{_≡_};
 ghost use mathlib.Core.Bool.{_&&_};
 ghost use Prim.Native.Nat.{_+_, _<_, _≤_};
 ghost use lib.ListN.{length, getD};
-ghost use Rattle.rule_words.specs.Rules.{bothGood, asciiGood, follows, behind, searchable, thirds, wideGood, escapeGood};
+ghost use Rattle.rule_words.specs.Rules.{eachWord, bothGood, asciiGood, follows, behind, searchable, thirds, wideGood, escapeGood};
 ghost use Rattle.rule_rows.specs.Thirds.{thirdGood, rangeGood};
 use rule_words::good;
 use rule_words::none_or;
@@ -12,29 +12,45 @@ use rule_words::present;
 use rule_words::word_at;
 use rule_words::word_past;
 
-// Both targets of the word that stands `skip` words behind a place are good.
-fn word_is_good(words: &[u32], states: u32, at: usize, skip: usize) -> bool
-    ensures { λ r. ⌜ r ≡ bothGood states (getD (now (words .entry)) (at + skip) 0) ⌝ }
+// Both targets of a word are good.
+fn both_good(states: u32, x: u32) -> bool
+    ensures { λ r. ⌜ r ≡ bothGood states x ⌝ }
 {
-    let x = word_past(words, at, skip);
     good(states, x % 65536) & good(states, x / 65536)
 }
 
-// Rule 5: the targets of an ASCII row, 64 words, are good.
+// The targets of `count` words from `at` are good. All are judged, with no way out at the first that is not: the compiler then tests several at
+// once.
+fn words_are_good(words: &[u32], states: u32, at: usize, count: usize) -> bool
+    requires within { ⌜ at + count ≤ length (now words) ⌝ }
+    ensures { λ r. ⌜ r ≡ eachWord (bothGood states) (now (words .entry)) count at ⌝ }
+{
+    let mut here = at;
+    let mut left = count;
+    let mut all = true;
+    while 0 < left {
+        all = both_good(states, words[here]) & all;
+        here += 1;
+        left -= 1;
+    }
+    all
+}
+
+// The words of an ASCII row: two targets each.
+const ROW_WORDS: usize = 64;
+
+// Rule 5: the targets of an ASCII row are good, those of a word past the end among them.
 pub fn ascii_row_is_good(words: &[u32], states: u32, at: usize) -> bool
     ensures { λ r. ⌜ r ≡ asciiGood states (now (words .entry)) at ⌝ }
 {
-    let mut left: usize = 64;
-    let mut skip: usize = 0;
-    while 0 < left {
-        if word_is_good(words, states, at, skip) {
-            skip += 1;
-            left -= 1;
-        } else {
-            return false;
-        }
+    if words.len() <= at {
+        return both_good(states, 0);
     }
-    true
+    let there = words.len() - at;
+    if there < ROW_WORDS {
+        return words_are_good(words, states, at, there) & both_good(states, 0);
+    }
+    words_are_good(words, states, at, ROW_WORDS)
 }
 
 // A word as a number that one more still fits.
