@@ -1,6 +1,10 @@
 // What index rule 4 asks of a run: it is the classification of its state's row.
 // It works on the words and the places of the sections' counts; a word past the end is 0, so every function takes any place.
 ghost use mathlib.Core.Path.{_≡_};
+ghost use Prim.Native.Nat.{_+_, _-_, _/_};
+ghost use lib.Dec.{ltb};
+ghost use lib.ListN.{length};
+ghost use Rattle.refusal.specs.Lists.{pick};
 ghost use Rattle.rule_words.specs.Rules.{rowOf, rowNumber, classifiedWords, stands, runGood};
 use rule_words::word_at;
 use rule_words::word_past;
@@ -8,17 +12,41 @@ use run_shape::Answered;
 use run_shape::Run;
 use run_shape::RunWords;
 
-// Row `index` of the ASCII rows: two targets to a word, that of the even symbol in the low half.
+// How many words of a row are there, that starts `start` words behind a place: 64 at most.
+fn words_there(words: &[u32], at: usize, start: usize) -> usize
+    ensures { λ r. ⌜ r ≡ pick (ltb (length (now (words .entry)) - (at + start)) 64) (length (now (words .entry)) - (at + start)) 64 ⌝ }
+{
+    if words.len() <= at {
+        return 0;
+    }
+    let behind = words.len() - at;
+    if behind <= start {
+        return 0;
+    }
+    if behind - start < 64 {
+        return behind - start;
+    }
+    64
+}
+
+fn high_half(word: u32) -> u16
+    ensures { λ r. ⌜ r ≡ word / 65536 ⌝ }
+{
+    (word / 65536) as u16
+}
+
+// Row `index` of the ASCII rows: two targets to a word, that of the even symbol in the low half. A word past the end is 0, as the row is at first.
 fn row_of(words: &[u32], ascii_rows: usize, index: u32) -> [u16; 128]
     ensures { λ r. ⌜ r ≡ rowOf (now (words .entry)) «ascii_rows» index ⌝ }
 {
     let start = 1 + 64 * index as usize;
+    let there = words_there(words, ascii_rows, start);
     let mut row: [u16; 128] = [0; 128];
     let mut i = 0;
-    while i < 64 {
-        let word = word_past(words, ascii_rows, start + i);
+    while i < there {
+        let word = words[ascii_rows + (start + i)];
         row[2 * i] = (word % 65536) as u16;
-        row[2 * i + 1] = (word / 65536) as u16;
+        row[2 * i + 1] = high_half(word);
         i += 1;
     }
     row
