@@ -19,7 +19,7 @@ use Rattle.run_shape.specs.Shape.{Shape, none, until, held, Got, run, refused}
 use Rattle.run_shape.specs.Words.{isZero, isAscii, orField, shortRun, kindOf, bytesOf, rangesRun, readAt, sizeOf}
 use Rattle.word_reader.specs.declared.Place.the-variants.{Next}
 use Rattle.word_reader.specs.Parse.{short, block, many, section, both}
-use Rattle.word_reader.specs.Records.{any, target, start, behind, modeAt, stateAt, runAt, asciiAt, wideAt, acceptAt, escapeAt}
+use Rattle.word_reader.specs.Records.{any, target, start, afterRun, modeAt, stateAt, runAt, asciiAt, wideAt, acceptAt, escapeAt}
 use Rattle.word_reader.specs.Records.{contextAt, goodContext, tripleAt, rangeAt, configAt, continuationAt}
 use Rattle.law_tables.specs.Table.{State, Range, Accept, Escape, Context, Continuation, each, counted, modeWords, stateWords, runWords}
 use Rattle.law_tables.specs.Table.{asciiWords, wideWords, acceptWords, escapeWords, contextWords, continuationWords, All, Start}
@@ -75,8 +75,8 @@ long-sorts x y z =
 
 sorted : (x : ℕ) (r : List ℕ) {got : ℕ → Got} → Sorts (length (x ∷ r)) got
     → ((w : List ℕ) (at : ℕ) (post : List ℕ) → At w at (x ∷ (r ++ post)) → readAt w at ≡ got at) → ReadsAt runAt (x ∷ r) ⊎ Fails runAt (x ∷ r)
-sorted x r (good q n g) f = inl (λ w at post a. ap (behind at) (f w at post a ∙ g at) ∙ ap (λ k. Next (at + k)) n)
-sorted x r (bad g) f = inr (λ w at post a. ap (behind at) (f w at post a ∙ g at))
+sorted x r (good q n g) f = inl (λ w at post a. ap (afterRun at) (f w at post a ∙ g at) ∙ ap (λ k. Next (at + k)) n)
+sorted x r (bad g) f = inr (λ w at post a. ap (afterRun at) (f w at post a ∙ g at))
 
 -- Three words that are judged together: read, or refused at the first; short, where one or two of them stand
 
@@ -100,7 +100,7 @@ three-judged part x y z (inr k) =
     subst (λ r. ReadsAt r (x ∷ y ∷ z ∷ []) ⊎ Fails r (x ∷ y ∷ z ∷ [])) (sym k) (context-three x y z (goodContext (x ∷ y ∷ z ∷ [])) refl)
 
 pub three-short : (part : Reader) (x : ℕ) → Three part x → (w : List ℕ) (at : ℕ) (r : List ℕ) → At w at (x ∷ r) → length r < 2 → part w at ≡ short w
-three-short part x (inl k) w at r a h = subst (λ g. g w at ≡ short w) (sym (k .0)) (ap (behind at) (read-cut a h (k .1)))
+three-short part x (inl k) w at r a h = subst (λ g. g w at ≡ short w) (sym (k .0)) (ap (afterRun at) (read-cut a h (k .1)))
 three-short part x (inr k) w at r a h = subst (λ g. g w at ≡ short w) (sym k) (block-short 3 goodContext a (omega arith))
 
 of-three : {part : Reader} {M : Marks} (n : ℕ) → ReadsAt part (zeros n) → (x : ℕ) → Three part x → M [] x → (r : List ℕ) → Ends part M (x ∷ r)
@@ -133,7 +133,7 @@ run-fronted = record { least = 1; spare = run-spare; ends = λ rest _. go rest }
     by x r true u = let k = eqb-true (kindOf x) 5 u in of-three 1 run-spare x (inl (refl, k)) (refl, k) r
 
     go : (rest : List ℕ) → Ends runAt RunMarks rest
-    go [] = stops 1 run-spare (over refl (λ w at a. ap (behind at) (read-nothing a)))
+    go [] = stops 1 run-spare (over refl (λ w at a. ap (afterRun at) (read-nothing a)))
     go (x ∷ r) = by x r (eqb (kindOf x) 5) refl
 
 context-spare : ReadsAt contextAt (0 ∷ 0 ∷ 0 ∷ [])

@@ -15,7 +15,7 @@ use Rattle.refusal.specs.Fixed.{NONE}
 use Rattle.word_reader.specs.declared.Place.{Place}
 use Rattle.word_reader.specs.declared.Place.the-variants.{Next}
 use Rattle.rule_words.specs.Rules as words
-use Rattle.rule_words.specs.Rules.{everyFrom, walk, every, everyIn, sized, good, noneOr, present, follows, behind, searchable, thirds, eachWord, refersBelow}
+use Rattle.rule_words.specs.Rules.{everyFrom, walk, every, everyIn, sized, good, noneOr, present, follows, nextFrom, searchable, thirds, eachWord, refersBelow}
 use Rattle.rule_words.specs.Rules.{below, stateGood, bothGood, wideGood, escapeGood, configGood, continuationWith, continuationGood}
 use Rattle.law_tables.specs.Table.{Table, State, Range, Escape, Context, Config, Continuation, Fields, All, each, counted, wordsOf, modeWords}
 use Rattle.law_tables.specs.Table.{stateWords, rangeWords, wideWords, escapeWords, contextWords, configWords, continuationWords}
@@ -186,10 +186,10 @@ searchable-judges : (rs : List Range) (w : List ℕ) (at : ℕ) (post : List ℕ
     → Judges (searchable w 0 (length rs) at) (Searchable rs)
 searchable-judges rs w at post a =
     said-as (turn-searchable 0 rs) (searchable-all rs)
-    (walk-judges rangeWords (λ n x. Unit {0}) Follows (λ from r. r .high + 1) w (follows w) (λ from p. behind w p) (sized 3) step rs 0 at post (free _ 0 rs) a)
+    (walk-judges rangeWords (λ n x. Unit {0}) Follows (λ from r. r .high + 1) w (follows w) (λ from p. nextFrom w p) (sized 3) step rs 0 at post (free _ 0 rs) a)
   where
     step : (from : ℕ) (x : Range) (p : ℕ) (q : List ℕ) → Unit {0} → At w p (rangeWords x ++ q)
-        → Step rangeWords Follows (λ from r. r .high + 1) (follows w) (λ from p. behind w p) (sized 3) from x p
+        → Step rangeWords Follows (λ from r. r .high + 1) (follows w) (λ from p. nextFrom w p) (sized 3) from x p
     step from x p q _ b =
         let high : getD w (p + 1) 0 ≡ x .high = at-nth (x .low ∷ []) _ _ b in
         record { judges = follow w from x p (at-head b) high; hands = ap (λ n. n + 1) high; reads = refl }

@@ -21,7 +21,7 @@ use Rattle.run_shape.specs.Shape.{Shape, none, any, until, ranges, shapeOf, sha
 use Rattle.run_shape.specs.Words.{orField, shortRun, kindOf, bytesOf, rangesRun, readAt, sizeOf, wordsOf}
 use Rattle.refusal.proofs.Lists.{and-split}
 use Rattle.word_reader.specs.declared.Place.the-variants.{Next}
-use Rattle.word_reader.specs.Records.{behind, runAt}
+use Rattle.word_reader.specs.Records.{afterRun, runAt}
 use Rattle.law_tables.specs.Table.{packed, bytes, runWords, All, InOrder, RunFields}
 use Rattle.law_tables.specs.Whole.{Fit}
 use Rattle.law_tables.proofs.Codec.{At, Split, Codec, on, at-length, at-head}
@@ -420,9 +420,9 @@ run-codec = record { complete = done; sound = λ w at p rest f a e. found w at p
   where
     done : (s : Shape) (w : List ℕ) (at : ℕ) (post : List ℕ) → RunFields s → At w at (runWords s ++ post) → runAt w at ≡ Next (at + length (runWords s))
     done s w at post v a =
-        ap (behind at) (shape-reads s post v a) ∙ ap (λ n. Next (at + n)) (size-words (held s) ∙ ap (λ x. length (runWords x)) (held-shape s v))
+        ap (afterRun at) (shape-reads s post v a) ∙ ap (λ n. Next (at + n)) (size-words (held s) ∙ ap (λ x. length (runWords x)) (held-shape s v))
 
-    found : (w : List ℕ) (at p : ℕ) (rest : List ℕ) → Fit w → At w at rest → (g : Got) → readAt w at ≡ g → behind at g ≡ Next p
+    found : (w : List ℕ) (at p : ℕ) (rest : List ℕ) → Fit w → At w at rest → (g : Got) → readAt w at ≡ g → afterRun at g ≡ Next p
         → Split Shape runWords RunFields rest at p
     found w at p rest f a (refused n x) u e = let z : _≡_ {A = ℕ} 0 1 = cc in absurd (omega arith)
     found w at p rest f a (run q) u e =

@@ -30,7 +30,7 @@ use Rattle.rule_walk.specs.declared.Question.the-variants.{AcceptIsPlain, Conti
 use Rattle.rule_walk.specs.Questions.{allPass}
 use Rattle.room_fill.specs.Room.{startsFrom, starts, each, shifted, placed, places}
 use Rattle.room_fill.proofs.Writing.{record-limit}
-use Rattle.room_judge.specs.Standing.{standsAt, fourStand, eightStand, standing, behind, emptyFrom, flagsPlain}
+use Rattle.room_judge.specs.Standing.{standsAt, fourStand, eightStand, standing, placeAfter, emptyFrom, flagsPlain}
 
 -- One number
 
@@ -89,25 +89,25 @@ module _ (g : ℕ → Place) (d : List ℕ) where
         go (suc k) h i = rw sub-one (rw (← e, n, ← o, y) at i)
 
     pub place-failed : {p : ℕ} {ok : Bool} → coming left here m ≡ all → 0 < left → got ≡ g here → got ≡ Next p → ok ≡ standsAt (here + 9) m d → ok ≡ false
-        → length d + 1 ≡ behind all d
-    unfolding each starts startsFrom standing behind
+        → length d + 1 ≡ placeAfter all d
+    unfolding each starts startsFrom standing placeAfter
     place-failed {p} i h e n o y = go left h i
       where
-        go : (k : ℕ) → 0 < k → coming k here m ≡ all → length d + 1 ≡ behind all d
+        go : (k : ℕ) → 0 < k → coming k here m ≡ all → length d + 1 ≡ placeAfter all d
         go zero h i = absurd (not-suc-le-zero h)
-        go (suc k) h i = ap (λ (q : Place). behind q d) (rw (← e, n, ← o, y) at i)
+        go (suc k) h i = ap (λ (q : Place). placeAfter q d) (rw (← e, n, ← o, y) at i)
 
-    pub place-lost : {r : Refusal} → coming left here m ≡ all → 0 < left → got ≡ g here → got ≡ Refused r → m ≡ behind all d
-    unfolding each starts startsFrom standing behind
+    pub place-lost : {r : Refusal} → coming left here m ≡ all → 0 < left → got ≡ g here → got ≡ Refused r → m ≡ placeAfter all d
+    unfolding each starts startsFrom standing placeAfter
     place-lost i h e n = go left h i
       where
-        go : (k : ℕ) → 0 < k → coming k here m ≡ all → m ≡ behind all d
+        go : (k : ℕ) → 0 < k → coming k here m ≡ all → m ≡ placeAfter all d
         go zero h i = absurd (not-suc-le-zero h)
-        go (suc k) h i = ap (λ (q : Place). behind q d) (rw (← e, n) at i)
+        go (suc k) h i = ap (λ (q : Place). placeAfter q d) (rw (← e, n) at i)
 
-  pub places-done : (left here m : ℕ) {all : Place} → coming left here m ≡ all → left ≤ 0 → m ≡ behind all d
-  unfolding each starts standing behind
-  places-done zero here m i h = ap (λ (q : Place). behind q d) i
+  pub places-done : (left here m : ℕ) {all : Place} → coming left here m ≡ all → left ≤ 0 → m ≡ placeAfter all d
+  unfolding each starts standing placeAfter
+  places-done zero here m i h = ap (λ (q : Place). placeAfter q d) i
   places-done (suc k) here m i h = absurd (not-suc-le-zero h)
 
 pub places-start : (read : List ℕ → ℕ → Place) (w d : List ℕ) (at n : ℕ) → coming (read w) d (getD w at 0) (at + 1) n ≡ standing (placed read w at) n d
@@ -131,16 +131,16 @@ standing-append (x ∷ xs) ys n d = go (standsAt x n d) (standing-append xs ys (
     go false h = refl
 
 -- nothing stands past the end
-past-stays : (ys : List ℕ) (d : List ℕ) → behind (standing ys (length d + 1) d) d ≡ length d + 1
-unfolding standing behind
+past-stays : (ys : List ℕ) (d : List ℕ) → placeAfter (standing ys (length d + 1) d) d ≡ length d + 1
+unfolding standing placeAfter
 past-stays [] d = refl
 past-stays (y ∷ ys) d = let h : length d ≤ length d + 1 = omega arith in rw (← stands-past y (length d + 1) d h)
 
-behind-append : (xs ys : List ℕ) (n : ℕ) (d : List ℕ) → behind (standing (xs ++ ys) n d) d ≡ behind (standing ys (behind (standing xs n d) d) d) d
-unfolding andThen behind
-behind-append xs ys n d = ap (λ (q : Place). behind q d) (standing-append xs ys n d) ∙ go (standing xs n d)
+place-after-append : (xs ys : List ℕ) (n : ℕ) (d : List ℕ) → placeAfter (standing (xs ++ ys) n d) d ≡ placeAfter (standing ys (placeAfter (standing xs n d) d) d) d
+unfolding andThen placeAfter
+place-after-append xs ys n d = ap (λ (q : Place). placeAfter q d) (standing-append xs ys n d) ∙ go (standing xs n d)
   where
-    go : (o : Place) → behind (andThen o (λ p. standing ys p d)) d ≡ behind (standing ys (behind o d) d) d
+    go : (o : Place) → placeAfter (andThen o (λ p. standing ys p d)) d ≡ placeAfter (standing ys (placeAfter o d) d) d
     go (Next p) = refl
     go (Refused r) = sym (past-stays ys d)
 
@@ -161,12 +161,12 @@ module _ (w : List ℕ) (s : Sections) (n : ℕ) (d : List ℕ) where
   abbrev E : List ℕ
   E = placed continuationAt w (s .continuations)
 
-  pub places-stood : {i j k l m : ℕ} → i ≡ behind (standing A n d) d → j ≡ behind (standing B i d) d → k ≡ behind (standing C j d) d
-      → l ≡ behind (standing D k d) d
-      → m ≡ behind (standing E l d) d → m ≡ behind (standing (places w s) n d) d
+  pub places-stood : {i j k l m : ℕ} → i ≡ placeAfter (standing A n d) d → j ≡ placeAfter (standing B i d) d → k ≡ placeAfter (standing C j d) d
+      → l ≡ placeAfter (standing D k d) d
+      → m ≡ placeAfter (standing E l d) d → m ≡ placeAfter (standing (places w s) n d) d
   places-stood {i} {j} {k} {l} f g h o p =
-      p ∙ sym (behind-append A (B ++ (C ++ (D ++ E))) n d ∙ (rw (← f) (behind-append B (C ++ (D ++ E)) i d ∙ (rw (← g) (behind-append C (D ++ E) j d
-      ∙ (rw (← h) (behind-append D E k d ∙ (rw (← o)))))))))
+      p ∙ sym (place-after-append A (B ++ (C ++ (D ++ E))) n d ∙ (rw (← f) (place-after-append B (C ++ (D ++ E)) i d ∙ (rw (← g) (place-after-append C (D ++ E) j d
+      ∙ (rw (← h) (place-after-append D E k d ∙ (rw (← o)))))))))
 
 -- Flags: each record of both sections is asked
 

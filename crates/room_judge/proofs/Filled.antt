@@ -27,7 +27,7 @@ use Rattle.room_fill.proofs.Sizes.{made-length}
 use Rattle.room_decode.specs.declared.Decoded.the-variants as decoded
 use Rattle.room_decode.specs.declared.Decoded.the-variants.{Table}
 use Rattle.room_decode.specs.Decode.{judged, decodedFrom, keptFrom}
-use Rattle.room_judge.specs.Standing.{Few, standsAt, standing, behind, emptyFrom, emptyBehind, fourStand, eightStand, flagsPlain, filled, sound}
+use Rattle.room_judge.specs.Standing.{Few, standsAt, standing, placeAfter, emptyFrom, emptyBehind, fourStand, eightStand, flagsPlain, filled, sound}
 use Rattle.room_judge.specs.Judge.{wordsPart, Part, accepted, isTable, tableIn}
 use Rattle.room_judge.proofs.Stood.{moved, alike, stands-in, cons-stands, cons-stood, append-stands, append-stood}
 use Rattle.room_judge.proofs.Stood.{stood-within, stood-next, stood-is, stands-part, whole-stood, whole-stands}
@@ -209,19 +209,19 @@ pub ruleset measuring = (needs, too-short, too-many, words-part, words-few)
 
 -- the place behind a list is within the room exactly where the list stands
 module _ (xs : List ℕ) (n : ℕ) (d : List ℕ) {p : ℕ} where
-  past : p ≡ behind (standing xs n d) d → n ≤ length d → length d < p → false ≡ emptyBehind (standing xs n d) d
-  unfolding behind emptyBehind
+  past : p ≡ placeAfter (standing xs n d) d → n ≤ length d → length d < p → false ≡ emptyBehind (standing xs n d) d
+  unfolding placeAfter emptyBehind
   past g l f = go (standing xs n d) refl g
     where
-      go : (o : Place) → standing xs n d ≡ o → p ≡ behind o d → false ≡ emptyBehind o d
+      go : (o : Place) → standing xs n d ≡ o → p ≡ placeAfter o d → false ≡ emptyBehind o d
       go (Next q) i k = absurd (omega (arith, stood-within xs n d q l i))
       go (Refused q) i k = refl
 
-  here : p ≡ behind (standing xs n d) d → p ≤ length d → emptyFrom p d ≡ emptyBehind (standing xs n d) d
-  unfolding behind emptyBehind
+  here : p ≡ placeAfter (standing xs n d) d → p ≤ length d → emptyFrom p d ≡ emptyBehind (standing xs n d) d
+  unfolding placeAfter emptyBehind
   here g f = go (standing xs n d) g
     where
-      go : (o : Place) → p ≡ behind o d → emptyFrom p d ≡ emptyBehind o d
+      go : (o : Place) → p ≡ placeAfter o d → emptyFrom p d ≡ emptyBehind o d
       go (Next q) k = rw k
       go (Refused q) k = absurd (omega arith)
 
@@ -236,13 +236,13 @@ module _ (w d : List ℕ) (s : Sections) where
 
   module _ {ok t : Bool} {p : ℕ} where
     pub filled-places : ok ≡ eightStand s d → ok ≡ true → t ≡ flagsPlain w (s .accepts) (s .continuations) → t ≡ true
-        → p ≡ behind (standing (places w s) (length w + 9) d) d
+        → p ≡ placeAfter (standing (places w s) (length w + 9) d) d
         → length w ≤ 8192 → 16384 ≤ length d → length d < p → false ≡ filled w s d
     unfolding filled
     filled-places o y u z g h l f = rw (← o, y, ← u, z) (past (places w s) (length w + 9) d g (omega arith) f)
 
     pub filled-all : {n : Bool} → ok ≡ eightStand s d → ok ≡ true → t ≡ flagsPlain w (s .accepts) (s .continuations) → t ≡ true
-        → p ≡ behind (standing (places w s) (length w + 9) d) d
+        → p ≡ placeAfter (standing (places w s) (length w + 9) d) d
         → p ≤ length d → n ≡ emptyFrom p d → n ≡ filled w s d
     unfolding filled
     filled-all o y u z g f h = h ∙ (rw (← o, y, ← u, z) (here (places w s) (length w + 9) d g f))

@@ -29,9 +29,9 @@ standing [] n d = Next n
 standing (x ∷ xs) n d = pick (standsAt x n d) (standing xs (n + 1) d) (refused NOT-TABLE 0)
 
 -- that place as a number: where the list does not stand, one past the end
-unfoldable pub behind : Place → List ℕ → ℕ
-behind (Next p) d = p
-behind (Refused r) d = length d + 1
+unfoldable pub placeAfter : Place → List ℕ → ℕ
+placeAfter (Next p) d = p
+placeAfter (Refused r) d = length d + 1
 
 -- only zeros stand from n on
 unfoldable pub emptyFrom : ℕ → List ℕ → Bool

@@ -7,7 +7,7 @@ ghost use Rattle.word_sections.specs.Kinds.{recordAt};
 ghost use Rattle.room_fill.specs.Room.{placed, places};
 ghost use Rattle.word_layout.specs.declared.Layout.the-variants.{Found};
 ghost use Rattle.word_layout.specs.Layout.{layoutOf};
-ghost use Rattle.room_judge.specs.Standing.{Few, standsAt, fourStand, eightStand, standing, behind};
+ghost use Rattle.room_judge.specs.Standing.{Few, standsAt, fourStand, eightStand, standing, placeAfter};
 use refusal::HEADER_NUMBERS;
 use refusal::MODES_START;
 use refusal::WIDE_START;
@@ -58,7 +58,7 @@ pub(crate) fn eight_stand(s: Sections, room: &[u32]) -> bool
 fn record_places_stand(kind: Kind, words: &[u32], at: usize, room: &[u32], n: usize) -> usize
     requires within { ⌜ at < length (now words) ⌝ }
     requires limit { ⌜ length (now words) ≤ 8192 ⌝ }
-    ensures { λ r. ⌜ r ≡ behind (standing (placed (recordAt kind) (now (words .entry)) at) n (now (room .entry))) (now (room .entry)) ⌝ }
+    ensures { λ r. ⌜ r ≡ placeAfter (standing (placed (recordAt kind) (now (words .entry)) at) n (now (room .entry))) (now (room .entry)) ⌝ }
 {
     let mut here = at + 1;
     let mut left = words[at];
@@ -86,7 +86,7 @@ fn record_places_stand(kind: Kind, words: &[u32], at: usize, room: &[u32], n: us
 pub(crate) fn places_stand(words: &[u32], s: Sections, room: &[u32], n: usize) -> usize
     requires found { ⌜ layoutOf (now words) ≡ Found s ⌝ }
     requires limit { ⌜ length (now words) ≤ 8192 ⌝ }
-    ensures { λ r. ⌜ r ≡ behind (standing (places (now (words .entry)) s) n (now (room .entry))) (now (room .entry)) ⌝ }
+    ensures { λ r. ⌜ r ≡ placeAfter (standing (places (now (words .entry)) s) n (now (room .entry))) (now (room .entry)) ⌝ }
 {
     let a = record_places_stand(Kind::AsciiRun, words, s.runs, room, n);
     let b = record_places_stand(Kind::WideRow, words, s.wide, room, a);

@@ -8,7 +8,7 @@ use mathlib.Core.Bool.{Bool, true, false, _&&_, and-true, and-false}
 use lib.Dec.{leb}
 use lib.ListN.{length, getD}
 use borrow.Author.Needs.{needs}
-use Rattle.rule_words.specs.Rules.{everyFrom, walk, sized, eachWord, good, noneOr, present, bothGood, follows, behind, searchable, thirds, wideGood, escapeGood}
+use Rattle.rule_words.specs.Rules.{everyFrom, walk, sized, eachWord, good, noneOr, present, bothGood, follows, searchable, thirds, wideGood, escapeGood, nextFrom}
 use Rattle.rule_words.proofs.Laws.{past-end, past-all, striding}
 use Rattle.rule_rows.specs.declared.Third.{Third}
 use Rattle.rule_rows.specs.declared.Third.the-variants.{Target, Continuation}
@@ -90,7 +90,7 @@ pub ruleset testing = (needs, follows-tested, target-tested, continuation-tested
 
 -- One walk over ranges asks both: their order, and their third numbers.
 abbrev pub rangesGood : Third → List ℕ → ℕ → ℕ → ℕ → Bool
-rangesGood t w = walk (rangeGood t w) (λ from at. behind w at) (sized 3)
+rangesGood t w = walk (rangeGood t w) (λ from at. nextFrom w at) (sized 3)
 
 shuffled : (a b c d e : Bool) → c ≡ (d && e) → ((a && b) && c) ≡ ((a && d) && (b && e))
 shuffled true true c d e h = h
@@ -100,7 +100,7 @@ shuffled false b c d e h = refl
 pub asks-both : (t : Third) (w : List ℕ) (from n at : ℕ) → rangesGood t w from n at ≡ (searchable w from n at && thirds (thirdGood t) w n at)
 unfolding walk everyFrom
 asks-both t w from zero at = refl
-asks-both t w from (suc n) at = shuffled (follows w from at) (thirdGood t (getD w (at + 2) 0)) _ _ _ (asks-both t w (behind w at) n (at + 3))
+asks-both t w from (suc n) at = shuffled (follows w from at) (thirdGood t (getD w (at + 2) 0)) _ _ _ (asks-both t w (nextFrom w at) n (at + 3))
 
 pub ruleset ranging = (striding, asks-both)
 

@@ -4,7 +4,7 @@ ghost use mathlib.Core.Path.{_≡_};
 ghost use mathlib.Core.Bool.{_&&_};
 ghost use Prim.Native.Nat.{_+_, _<_, _≤_};
 ghost use lib.ListN.{length, getD};
-ghost use Rattle.rule_words.specs.Rules.{eachWord, bothGood, asciiGood, follows, behind, searchable, thirds, wideGood, escapeGood};
+ghost use Rattle.rule_words.specs.Rules.{eachWord, bothGood, asciiGood, follows, searchable, thirds, wideGood, escapeGood, nextFrom};
 ghost use Rattle.rule_rows.specs.Thirds.{thirdGood, rangeGood};
 use rule_words::good;
 use rule_words::none_or;
@@ -70,8 +70,8 @@ fn follows(words: &[u32], from: u64, at: usize) -> bool
 }
 
 // Where the range behind the one at a place may start.
-fn behind(words: &[u32], at: usize) -> u64
-    ensures { λ r. ⌜ r ≡ behind (now (words .entry)) at ⌝ }
+fn next_from(words: &[u32], at: usize) -> u64
+    ensures { λ r. ⌜ r ≡ nextFrom (now (words .entry)) at ⌝ }
 {
     wide(word_past(words, at, 1)) + 1
 }
@@ -109,7 +109,7 @@ fn ranges_are_good(third: Third, words: &[u32], count: u32, at: usize) -> bool
     let mut here = at;
     while 0 < left {
         if range_is_good(third, words, from, here) {
-            from = behind(words, here);
+            from = next_from(words, here);
             here += 3;
             left -= 1;
         } else {

@@ -78,12 +78,12 @@ unfoldable pub follows : List ℕ → ℕ → ℕ → Bool
 follows w from at = leb from (getD w at 0) && leb (getD w at 0) (getD w (at + 1) 0)
 
 -- where the range behind a range may start
-abbrev pub behind : List ℕ → ℕ → ℕ
-behind w at = getD w (at + 1) 0 + 1
+abbrev pub nextFrom : List ℕ → ℕ → ℕ
+nextFrom w at = getD w (at + 1) 0 + 1
 
 -- n ranges of three words, the first from `from` on
 abbrev pub searchable : List ℕ → ℕ → ℕ → ℕ → Bool
-searchable w = walk (follows w) (λ from at. behind w at) (sized 3)
+searchable w = walk (follows w) (λ from at. nextFrom w at) (sized 3)
 
 -- the third word of each of n ranges passes the test
 abbrev pub thirds : (ℕ → Bool) → List ℕ → ℕ → ℕ → Bool

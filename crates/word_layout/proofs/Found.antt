@@ -101,22 +101,22 @@ pub record Ordered (w : List ℕ) (s : Sections) : Type 0 where
   pub all : s .continuations < length w
 
 -- a section ends behind its count
-behind : (f : List ℕ → ℕ → Place) (w : List ℕ) → Within (length w) 1 (f w) → {at p : ℕ} → section f w at ≡ Next p → at < p
-behind f w within {at} {p} h = omega (arith, counted-in f w within at p h .0)
+section-past : (f : List ℕ → ℕ → Place) (w : List ℕ) → Within (length w) 1 (f w) → {at p : ℕ} → section f w at ≡ Next p → at < p
+section-past f w within {at} {p} h = omega (arith, counted-in f w within at p h .0)
 
 module _ (w : List ℕ) {s : Sections} (h : layoutOf w ≡ Found s) where
   pub order : Ordered w s
   order =
       let l = found w h in
       record {
-        states = behind modeAt w (mode-in w) (l .modes);
-        runs = behind stateAt w (state-in w) (l .states);
-        ascii = behind runAt w (run-in w) (l .runs);
-        wide = behind asciiAt w (ascii-in w) (l .ascii);
-        accepts = behind wideAt w (wide-in w) (l .wide);
-        escapes = behind acceptAt w (accept-in w) (l .accepts);
-        continuations = behind escapeAt w (escape-in w) (l .escapes);
-        all = behind continuationAt w (continuation-in w) (l .continuations);
+        states = section-past modeAt w (mode-in w) (l .modes);
+        runs = section-past stateAt w (state-in w) (l .states);
+        ascii = section-past runAt w (run-in w) (l .runs);
+        wide = section-past asciiAt w (ascii-in w) (l .ascii);
+        accepts = section-past wideAt w (wide-in w) (l .wide);
+        escapes = section-past acceptAt w (accept-in w) (l .accepts);
+        continuations = section-past escapeAt w (escape-in w) (l .escapes);
+        all = section-past continuationAt w (continuation-in w) (l .continuations);
       }
 
   -- all of it was read

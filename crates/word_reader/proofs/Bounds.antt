@@ -18,7 +18,7 @@ use Rattle.word_reader.specs.declared.Place.{Place}
 use Rattle.word_reader.specs.declared.Place.the-variants.{Next, Refused}
 use Rattle.word_reader.specs.Parse as parse
 use Rattle.word_reader.specs.Parse.{andThen, word, fields, block, many, section, both}
-use Rattle.word_reader.specs.Records.{behind, modeAt, stateAt, runAt, asciiAt, rangeAt, wideAt, tripleAt, acceptAt}
+use Rattle.word_reader.specs.Records.{afterRun, modeAt, stateAt, runAt, asciiAt, rangeAt, wideAt, tripleAt, acceptAt}
 use Rattle.word_reader.specs.Records.{escapeAt, contextAt, goodContext, configAt, continuationAt}
 
 -- Parts
@@ -146,23 +146,23 @@ ranges-words : (at : ℕ) (r : AsciiRanges) → Words 3 (rangesRun at r)
 unfolding rangesRun
 ranges-words at r = either 3 (eqb (r .count) 0) _ _ tt refl
 
-behind-in : (n at : ℕ) (g : Got) (p : ℕ) → Words n g → behind at g ≡ Next p → p ≡ at + n
-behind-in n at (run r) p h e = let q : at + sizeOf (r .kind) ≡ p = cc in omega arith
-behind-in n at (refused m q) p h e = let z : _≡_ {A = ℕ} 0 1 = cc in absurd (omega arith)
+after-run : (n at : ℕ) (g : Got) (p : ℕ) → Words n g → afterRun at g ≡ Next p → p ≡ at + n
+after-run n at (run r) p h e = let q : at + sizeOf (r .kind) ≡ p = cc in omega arith
+after-run n at (refused m q) p h e = let z : _≡_ {A = ℕ} 0 1 = cc in absurd (omega arith)
 
 pub run-in : (w : List ℕ) → Within (length w) 1 (runAt w)
 unfolding readAt
 run-in w a p e = go (ltb a (length w)) (eqb (kindOf (getD w a 0)) 5) (leb (a + 3) (length w)) _ _ refl refl (ranges-words a _) (short-words a _ _) e
   where
     go : (b c d : Bool) (g h : Got) → ltb a (length w) ≡ b → leb (a + 3) (length w) ≡ d → Words 3 g → Words 1 h
-        → behind a (pick b (pick c (pick d g (refused SHORT (length w))) h) (refused SHORT (length w))) ≡ Next p → (a + 1 ≤ p) × (p ≤ length w)
+        → afterRun a (pick b (pick c (pick d g (refused SHORT (length w))) h) (refused SHORT (length w))) ≡ Next p → (a + 1 ≤ p) × (p ≤ length w)
     go true true true g h u v x y e =
-        let q : p ≡ a + 3 = behind-in 3 a g p x e in
+        let q : p ≡ a + 3 = after-run 3 a g p x e in
         let l : a + 3 ≤ length w = leb-true _ _ v in
         (omega arith, omega arith)
     go true true false g h u v x y e = let z : _≡_ {A = ℕ} 0 1 = cc in absurd (omega arith)
     go true false d g h u v x y e =
-        let q : p ≡ a + 1 = behind-in 1 a h p y e in
+        let q : p ≡ a + 1 = after-run 1 a h p y e in
         let l : a < length w = ltb-true _ _ u in
         (omega arith, omega arith)
     go false c d g h u v x y e = let z : _≡_ {A = ℕ} 0 1 = cc in absurd (omega arith)

@@ -36,12 +36,12 @@ abbrev pub stateAt : List ℕ → ℕ → Place
 stateAt = fields (any ∷ any ∷ target ∷ any ∷ [])
 
 -- "4. runs": where the run that is read ends
-abbrev pub behind : ℕ → Got → Place
-behind at (run r) = Next (at + sizeOf (r .kind))
-behind at (refused n p) = parse.refused n p
+abbrev pub afterRun : ℕ → Got → Place
+afterRun at (run r) = Next (at + sizeOf (r .kind))
+afterRun at (refused n p) = parse.refused n p
 
 abbrev pub runAt : List ℕ → ℕ → Place
-runAt w at = behind at (readAt w at)
+runAt w at = afterRun at (readAt w at)
 
 -- "5. ascii rows: 64 words"
 abbrev pub asciiAt : List ℕ → ℕ → Place

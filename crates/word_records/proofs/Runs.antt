@@ -21,7 +21,7 @@ use Rattle.run_shape.specs.Shape.{Got, run, refused, Gives}
 use Rattle.run_shape.specs.Words.{readAt, sizeOf}
 use Rattle.run_shape.proofs.Answers.{given}
 use Rattle.word_reader.specs.declared.Place.the-variants.{Next, Refused as Halted}
-use Rattle.word_reader.specs.Records.{behind}
+use Rattle.word_reader.specs.Records.{afterRun}
 
 -- a run has at most three words
 size-≤ : (k : AsciiRun) → sizeOf k ≤ 3
@@ -50,7 +50,7 @@ module _ {q : RunAnswer} where
       → length w * 4 < 2 ^ 63 → Fits w64 (at + n)
   end-fits w at n j h e s l = omega (arith, inside w at h e, size-≤ j)
 
-  pub goes-on : (at : ℕ) (g : Got) {k : AsciiRun} {n : ℕ} → Gives q g → q .answer ≡ Ran k → n ≡ sizeOf k → Next (at + n) ≡ behind at g
+  pub goes-on : (at : ℕ) (g : Got) {k : AsciiRun} {n : ℕ} → Gives q g → q .answer ≡ Ran k → n ≡ sizeOf k → Next (at + n) ≡ afterRun at g
   goes-on at (run x) {k} h e s =
       let f = given (run x) h in
       let i : x .kind ≡ k = cc in
@@ -60,7 +60,7 @@ module _ {q : RunAnswer} where
       let z : _≡_ {A = ℕ} 0 1 = cc in
       absurd (omega arith)
 
-  pub halts : (at : ℕ) (g : Got) {r : Refusal} → Gives q g → q .answer ≡ Refused r → Halted r ≡ behind at g
+  pub halts : (at : ℕ) (g : Got) {r : Refusal} → Gives q g → q .answer ≡ Refused r → Halted r ≡ afterRun at g
   halts at (run x) h e =
       let f = given (run x) h in
       let z : _≡_ {A = ℕ} 0 1 = cc in

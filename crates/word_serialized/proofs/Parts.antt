@@ -32,8 +32,8 @@ use Rattle.word_serialized.proofs.SerializedReader as T
 use Rattle.word_serialized.proofs.SerializedReader.Laws as T′
 
 -- `SerializedReader<'a>`, as the referent's place in the signature
-abbrev pub behind : Slot 2
-behind = plain (λ κs. T.the-row (namedLft 2 1 tt κs))
+abbrev pub referent : Slot 2
+referent = plain (λ κs. T.the-row (namedLft 2 1 tt κs))
 
 -- 'a, as a method's signature has it, and the struct's type at it
 abbrev pub α : Lft → NamedLft

@@ -43,7 +43,7 @@ use denote.Triple.Clauses.{ensured, lasts}
 use Rattle.word_serialized.specs.Reader.{wordAt, pastWord}
 use Rattle.word_serialized.specs.declared.SerializedReader.{SerializedReader}
 use Rattle.word_serialized.specs.declared.Word.{Word}
-use Rattle.word_serialized.proofs.Parts.{behind, B, D, L, Own, Asked, Left, moved, passed, again, apart}
+use Rattle.word_serialized.proofs.Parts.{referent, B, D, L, Own, Asked, Left, moved, passed, again, apart}
 use Rattle.word_serialized.proofs.SerializedReader as T
 use Rattle.word_serialized.proofs.SerializedReader.Laws as T′
 use Rattle.word_serialized.proofs.Word as S
@@ -62,7 +62,7 @@ use Rattle.word_serialized.proofs.SerializedReader.next.Statement as st
 use Rattle.word_serialized.proofs.SerializedReader.next.Code as code
 
 abbrev stayed : Stays (next.ended .signature .params) (next.ended .kept)
-stayed = (stay-ref (0 ∷ []) tt behind, tt)
+stayed = (stay-ref (0 ∷ []) tt referent, tt)
 
 module _ {M : Type 1} (𝓤 : URA M) (H : Heap 𝓤) (A : Atoms 𝓤) (mem : Memory → SProp 𝓤) (run : Routine → Fun 𝓤) where
   -- the contracts that the proof cites
@@ -193,7 +193,7 @@ module _ {M : Type 1} (𝓤 : URA M) (H : Heap 𝓤) (A : Atoms 𝓤) (W : Given
 next-meets : {M : Type 1} (𝓤 : URA M) (H : Heap 𝓤) (A : Atoms 𝓤) (W : Given 𝓤 H A) (mem : Memory → SProp 𝓤) (run : Routine → Fun 𝓤) (𝓣 : Tables 𝓤 H)
     → Triple 𝓤 (𝓣 .C #word-at) (WordAt 𝓤 H A mem run) → Triple 𝓤 (𝓣 .C #past-word) (PastWord 𝓤 H A mem run)
     → Meets 𝓤 H A next.signature (WpFn 𝓤 H (𝓣 .C) (𝓣 .Λ) code.function) (next.spec 𝓤 H A mem run)
-next-meets 𝓤 H A W mem run 𝓣 known-word known-past = walk-meets 𝓤 H A next.ended stayed W (goes-ref 𝓤 H A W 2 0 tt behind, tt) (next.clauses 𝓤 H A mem run)
+next-meets 𝓤 H A W mem run 𝓣 known-word known-past = walk-meets 𝓤 H A next.ended stayed W (goes-ref 𝓤 H A W 2 0 tt referent, tt) (next.clauses 𝓤 H A mem run)
     (WpFn 𝓤 H (𝓣 .C) (𝓣 .Λ) code.function) (WpFn-mono 𝓤 H (W .laws) 𝓣 code.function)
     (next-walks 𝓤 H A W mem run (𝓣 .C) (𝓣 .Λ) (fmOf 𝓤 H (W .laws) 𝓣) known-word known-past)
 

@@ -50,7 +50,7 @@ use Rattle.word_records.proofs.read_state.Symbol.{name as #state-at}
 use Rattle.word_records.proofs.read_state.Met as state-at-thm
 use Rattle.word_serialized.specs.Reader.{pastRecord}
 use Rattle.word_serialized.specs.declared.SerializedReader.{SerializedReader}
-use Rattle.word_serialized.proofs.Parts.{behind, B, D, L, Own, Asked, Left, moved, passed, again, apart}
+use Rattle.word_serialized.proofs.Parts.{referent, B, D, L, Own, Asked, Left, moved, passed, again, apart}
 use Rattle.word_serialized.proofs.SerializedReader as T
 use Rattle.word_serialized.proofs.SerializedReader.Laws as T′
 use Rattle.word_serialized.proofs.past_record as past-record
@@ -63,7 +63,7 @@ use Rattle.word_serialized.proofs.SerializedReader.read_state.Statement
 use Rattle.word_serialized.proofs.SerializedReader.read_state.Code as code
 
 abbrev stayed : Stays (read-state.ended .signature .params) (read-state.ended .kept)
-stayed = (stay-ref (0 ∷ []) tt behind, tt)
+stayed = (stay-ref (0 ∷ []) tt referent, tt)
 
 module _ {M : Type 1} (𝓤 : URA M) (H : Heap 𝓤) (A : Atoms 𝓤) (mem : Memory → SProp 𝓤) (run : Routine → Fun 𝓤) where
   -- the contracts that the proof cites
@@ -197,7 +197,7 @@ module _ {M : Type 1} (𝓤 : URA M) (H : Heap 𝓤) (A : Atoms 𝓤) (W : Given
 read-state-meets : {M : Type 1} (𝓤 : URA M) (H : Heap 𝓤) (A : Atoms 𝓤) (W : Given 𝓤 H A) (mem : Memory → SProp 𝓤) (run : Routine → Fun 𝓤) (𝓣 : Tables 𝓤 H)
     → Triple 𝓤 (𝓣 .C #state-at) (StateAt 𝓤 H A mem run) → Triple 𝓤 (𝓣 .C #past-record) (PastRecord 𝓤 H A mem run)
     → Meets 𝓤 H A read-state.signature (WpFn 𝓤 H (𝓣 .C) (𝓣 .Λ) code.function) (read-state.spec 𝓤 H A mem run)
-read-state-meets 𝓤 H A W mem run 𝓣 known-state known-past = walk-meets 𝓤 H A read-state.ended stayed W (goes-ref 𝓤 H A W 2 0 tt behind, tt)
+read-state-meets 𝓤 H A W mem run 𝓣 known-state known-past = walk-meets 𝓤 H A read-state.ended stayed W (goes-ref 𝓤 H A W 2 0 tt referent, tt)
     (read-state.clauses 𝓤 H A mem run) (WpFn 𝓤 H (𝓣 .C) (𝓣 .Λ) code.function) (WpFn-mono 𝓤 H (W .laws) 𝓣 code.function)
     (read-state-walks 𝓤 H A W mem run (𝓣 .C) (𝓣 .Λ) (fmOf 𝓤 H (W .laws) 𝓣) known-state known-past)
 
