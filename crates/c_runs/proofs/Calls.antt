@@ -9,14 +9,14 @@ use Rattle.run_shape.specs.declared.Answered.the-variants.{Ran, Refused}
 use Rattle.run_shape.specs.declared.RunAnswer.{RunAnswer}
 use Rattle.run_shape.specs.declared.RunWords.{RunWords}
 use Rattle.run_shape.specs.Shape.{Got, run, refused, Gives}
-use Rattle.run_shape.specs.Words.{wordsOf}
+use Rattle.run_shape.specs.Words.{wordsOfRun}
 use Rattle.run_shape.proofs.Answers.{given}
 use Rattle.c_runs.specs.declared.CRun.{CRun}
 use Rattle.c_runs.specs.Answers.{wordsC, refusedRun, answeredInC, runInC}
 
 -- a run's words, or its refusal
 module _ {a : Answered} (q : AsciiRanges) where
-  pub words-ran : {k : AsciiRun} {w : RunWords} → w ≡ wordsOf k q → a ≡ Ran k → wordsC w ≡ answeredInC a q
+  pub words-ran : {k : AsciiRun} {w : RunWords} → w ≡ wordsOfRun k q → a ≡ Ran k → wordsC w ≡ answeredInC a q
   words-ran h e = rw (h, e)
 
   pub words-refused : {x : Refusal} → a ≡ Refused x → refusedRun (x .number) (x .place) ≡ answeredInC a q

@@ -5,7 +5,7 @@ use Rattle.run_shape.specs.declared.Answered.{Answered}
 use Rattle.run_shape.specs.declared.Answered.the-variants.{Ran, Refused}
 use Rattle.run_shape.specs.declared.RunWords.{RunWords}
 use Rattle.run_shape.specs.Shape.{Got, run, refused}
-use Rattle.run_shape.specs.Words.{wordsOf}
+use Rattle.run_shape.specs.Words.{wordsOfRun}
 use Rattle.c_runs.specs.declared.CRun.{CRun}
 
 abbrev pub wordsC : RunWords → CRun
@@ -16,10 +16,10 @@ refusedRun n p = record { number = n; place = p; length = 0; first = 0; second =
 
 -- an answer, with the ranges beside it
 abbrev pub answeredInC : Answered → AsciiRanges → CRun
-answeredInC (Ran k) q = wordsC (wordsOf k q)
+answeredInC (Ran k) q = wordsC (wordsOfRun k q)
 answeredInC (Refused r) q = refusedRun (r .number) (r .place)
 
 -- a run by its words
 abbrev pub runInC : Got → CRun
-runInC (run q) = wordsC (wordsOf (q .kind) (q .ranges))
+runInC (run q) = wordsC (wordsOfRun (q .kind) (q .ranges))
 runInC (refused n p) = refusedRun n p

@@ -62,7 +62,7 @@ classification-fits state row h = cases (eqb (length es) 0) refl (leb (length es
 
 -- the words that are written for a run are those of its shape: one, or three of which the first has kind 5
 abbrev written : Shape → RunWords
-written s = words.runWords (held s)
+written s = words.heldWords (held s)
 
 abbrev One : Shape → Type 0
 One s = (written s .length ≡ 1) × (runWords s ≡ written s .first ∷ []) × (written s .first % 256 < 5)

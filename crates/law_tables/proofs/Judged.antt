@@ -186,7 +186,8 @@ searchable-judges : (rs : List Range) (w : List ℕ) (at : ℕ) (post : List ℕ
     → Judges (searchable w 0 (length rs) at) (Searchable rs)
 searchable-judges rs w at post a =
     said-as (turn-searchable 0 rs) (searchable-all rs)
-    (walk-judges rangeWords (λ n x. Unit {0}) Follows (λ from r. r .high + 1) w (follows w) (λ from p. nextFrom w p) (sized 3) step rs 0 at post (free _ 0 rs) a)
+    (walk-judges rangeWords (λ n x. Unit {0}) Follows (λ from r. r .high + 1) w (follows w) (λ from p. nextFrom w p) (sized 3) step rs 0 at post
+    (free _ 0 rs) a)
   where
     step : (from : ℕ) (x : Range) (p : ℕ) (q : List ℕ) → Unit {0} → At w p (rangeWords x ++ q)
         → Step rangeWords Follows (λ from r. r .high + 1) (follows w) (λ from p. nextFrom w p) (sized 3) from x p

@@ -18,7 +18,7 @@ use Rattle.run_shape.specs.declared.AsciiRun.the-variants.{None, Any, Until1, U
 use Rattle.run_shape.specs.declared.Run.{Run}
 use Rattle.run_shape.specs.declared.RunWords.{RunWords}
 use Rattle.run_shape.specs.Shape.{Shape, none, any, until, ranges, shapeOf, shape, plain, held, Got, run, refused}
-use Rattle.run_shape.specs.Words.{orField, shortRun, kindOf, bytesOf, rangesRun, readAt, sizeOf, wordsOf}
+use Rattle.run_shape.specs.Words.{orField, shortRun, kindOf, bytesOf, rangesRun, readAt, sizeOf, wordsOfRun}
 use Rattle.refusal.proofs.Lists.{and-split}
 use Rattle.word_reader.specs.declared.Place.the-variants.{Next}
 use Rattle.word_reader.specs.Records.{afterRun, runAt}
@@ -225,10 +225,10 @@ held-shape (ranges (a ∷ b ∷ c ∷ d ∷ e ∷ rs)) v = absurd (omega (arith,
 abbrev pub listing : RunWords → List ℕ
 listing r = take (r .length) (r .first ∷ r .second ∷ r .third ∷ [])
 
-pub record Read (q : Run) (words : List ℕ) : Type 0 where
+pub record RunRead (q : Run) (words : List ℕ) : Type 0 where
   pub allowed : RunFields (shape q)
   pub opened : runWords (shape q) ≡ words
-  pub written : runWords (shape q) ≡ listing (wordsOf (q .kind) (q .ranges))
+  pub written : runWords (shape q) ≡ listing (wordsOfRun (q .kind) (q .ranges))
 
 -- the test held, and the run is the one behind it
 picked : (at : ℕ) (b : Bool) (r : Run) {q : Run} → pick b (run r) (refused FIELD at) ≡ run q → (b ≡ true) × (r ≡ q)
@@ -238,8 +238,8 @@ picked at false r e = let z : _≡_ {A = ℕ} 0 1 = cc in absurd (omega arith)
 never : {q : Run} {n p : ℕ} → refused n p ≡ run q → ⊥
 never e = let z : _≡_ {A = ℕ} 0 1 = cc in omega arith
 
-carried : {r q : Run} {l m : List ℕ} → r ≡ q → l ≡ m → Read r l → Read q m
-carried {r} {m = m} e f h = subst (λ (q : Run). Read q m) e (subst (Read r) f h)
+carried : {r q : Run} {l m : List ℕ} → r ≡ q → l ≡ m → RunRead r l → RunRead q m
+carried {r} {m = m} e f h = subst (λ (q : Run). RunRead q m) e (subst (RunRead r) f h)
 
 zeros : (b : ℕ) (t : Bool) → (eqb b 0 && t) ≡ true → (b ≡ 0) × (t ≡ true)
 zeros b t e = let s = and-split (eqb b 0) t e in (eqb-true b 0 (s .0), s .1)
@@ -259,7 +259,7 @@ unfolding shortRun
 no-kind at k l h e = never (rw (ne-eqb k 0 (omega arith), ne-eqb k 1 (omega arith), lt-leb k 4 h) at e)
 
 -- a run of one word, by its kind and bytes
-short-made : (at k a b c : ℕ) {q : Run} → shortRun at k (a ∷ b ∷ c ∷ []) ≡ run q → Read q ((k + 256 * (a + 256 * (b + 256 * c))) ∷ [])
+short-made : (at k a b c : ℕ) {q : Run} → shortRun at k (a ∷ b ∷ c ∷ []) ≡ run q → RunRead q ((k + 256 * (a + 256 * (b + 256 * c))) ∷ [])
 unfolding shortRun orField every held runWords packed RunFields All
 short-made at zero a b c e =
     let p = picked at (eqb a 0 && (eqb b 0 && (eqb c 0 && true))) (plain None) e in
@@ -353,7 +353,7 @@ half-word y h =
 
 -- four places with a good count
 places-made : (x y z : ℕ) → kindOf x ≡ 5 → x ≤ 65535 → y < 4294967296 → z < 4294967296 → Good (x / 256) (unpacked (record { first = y; second = z }))
-    → Read (record { kind = Ranges; ranges = record { ranges = unpacked (record { first = y; second = z }); count = x / 256 } }) (x ∷ y ∷ z ∷ [])
+    → RunRead (record { kind = Ranges; ranges = record { ranges = unpacked (record { first = y; second = z }); count = x / 256 } }) (x ∷ y ∷ z ∷ [])
 unfolding RunFields
 places-made x y z k l hy hz g =
     let n = length-take-le (x / 256) (unpacked (record { first = y; second = z })) (g .most) in
@@ -361,13 +361,13 @@ places-made x y z k l hy hz g =
     record { allowed = (omega arith, omega arith, g .order); opened = e ∙ list3 (omega arith) (half-word y hy) (half-word z hz); written = e }
 
 ranges-made : (at x y z : ℕ) {q : Run} → y < 4294967296 → z < 4294967296 → rangesRun at (rangesOfRun x (record { first = y; second = z })) ≡ run q
-    → Read q (x ∷ y ∷ z ∷ [])
+    → RunRead q (x ∷ y ∷ z ∷ [])
 unfolding rangesRun rangesOfRun checked
 ranges-made at x y z {q} hy hz e = go (eqb (x % 256) 5 && leb x 65535) refl (goodRanges (x / 256) (unpacked (record { first = y; second = z }))) refl e
   where
     go : (b : Bool) → (eqb (x % 256) 5 && leb x 65535) ≡ b → (d : Bool) → goodRanges (x / 256) (unpacked (record { first = y; second = z })) ≡ d
         → rangesRun at (pick b (pick d (record { ranges = unpacked (record { first = y; second = z }); count = x / 256 }) noRanges) noRanges) ≡ run q
-        → Read q (x ∷ y ∷ z ∷ [])
+        → RunRead q (x ∷ y ∷ z ∷ [])
     go false u d v e = absurd (never e)
     go true u false v e = absurd (never e)
     go true u true v e =
@@ -381,7 +381,7 @@ ranges-made at x y z {q} hy hz e = go (eqb (x % 256) 5 && leb x 65535) refl (goo
 pub record Opens (q : Run) (rest : List ℕ) : Type 0 where
   pub words : List ℕ
   pub post : List ℕ
-  pub reads : Read q words
+  pub reads : RunRead q words
   pub whole : rest ≡ words ++ post
 
 pub run-opens : (w : List ℕ) (at : ℕ) (rest : List ℕ) {q : Run} → Fit w → At w at rest → readAt w at ≡ run q → Opens q rest

@@ -31,7 +31,7 @@ use Rattle.law_tables.proofs.Placed.{modes-stand, states-stand, layout-is, foun
 use Rattle.law_tables.proofs.Obeyed.{unbroken-is, broken-is, obeys-accepted}
 use Rattle.law_tables.proofs.Refusals.{refusals}
 use Rattle.lexer_dfa.specs.Demands.{DecodeAnswers, Accepted, From}
-use Rattle.lexer_dfa.specs.RefusedBy.{Read, Breaks, RefusedBy}
+use Rattle.lexer_dfa.specs.RefusedBy.{WithinLimits, Breaks, RefusedBy}
 
 -- What decode says, on each condition
 
@@ -47,17 +47,17 @@ module _ (w : List ℕ) (n : ℕ) where
   over-limit h l = rw (le-ltb n 16384 h, lt-ltb 8192 (length w) l)
 
   -- else the words are read
-  is-read : Read w n → laidOut w n ≡ layoutOf w
+  is-read : WithinLimits w n → laidOut w n ≡ layoutOf w
   unfolding laidOut
   is-read (h, l) = rw (le-ltb n 16384 h, le-ltb 8192 (length w) l)
 
   -- and what their layout refuses is refused
-  not-laid : {k p : ℕ} → Read w n → layoutOf w ≡ unfound k p → said (decodeOf w n) ≡ no k p
+  not-laid : {k p : ℕ} → WithinLimits w n → layoutOf w ≡ unfound k p → said (decodeOf w n) ≡ no k p
   unfolding decodedFrom
   not-laid r e = ap (λ s. said (decodedFrom w s)) (is-read r ∙ e)
 
 -- the words of a table, whose fields are allowed: its rules judge it
-module _ (t : Table) (h : Fields t) (n : ℕ) (r : Read (wordsOf t) n) where
+module _ (t : Table) (h : Fields t) (n : ℕ) (r : WithinLimits (wordsOf t) n) where
   -- its sections are found
   laid : laidOut (wordsOf t) n ≡ Found (sectionsOf t)
   laid = is-read (wordsOf t) n r ∙ layout-is t h
@@ -94,8 +94,8 @@ first-from n (R ∷ Rs) (inr f) = omega (arith, first-from (n + 1) Rs (f .1))
 data Reason (w : List ℕ) (n k p : ℕ) : Type 0 where
   narrow : k ≡ ROOM → p ≡ 0 → n < 16384 → Reason w n k p
   long : k ≡ LIMIT → p ≡ 8192 → 16384 ≤ n → 8192 < length w → Reason w n k p
-  unlaid : Read w n → layoutOf w ≡ unfound k p → Reason w n k p
-  broken-rule : k ≡ INDEX → Read w n → Breaks w p → Reason w n k p
+  unlaid : WithinLimits w n → layoutOf w ≡ unfound k p → Reason w n k p
+  broken-rule : k ≡ INDEX → WithinLimits w n → Breaks w p → Reason w n k p
 
 -- of words w and a room of n numbers this is said
 abbrev Why : List ℕ → ℕ → Said → Type 0
@@ -103,7 +103,7 @@ Why w n (ok l) = Accepted w (getD l 0 0) (getD l 1 0) (getD l 2 0)
 Why w n (no k p) = Reason w n k p
 
 -- the words are a table's
-table-why : (t : Table) → Fields t → (n : ℕ) → Read (wordsOf t) n → Why (wordsOf t) n (said (decodeOf (wordsOf t) n))
+table-why : (t : Table) → Fields t → (n : ℕ) → WithinLimits (wordsOf t) n → Why (wordsOf t) n (said (decodeOf (wordsOf t) n))
 table-why t h n r = go (brokenOf t) refl
   where
     go : (k : ℕ) → brokenOf t ≡ k → Why (wordsOf t) n (said (decodeOf (wordsOf t) n))
@@ -117,11 +117,11 @@ table-why t h n r = go (brokenOf t) refl
 
 module _ (w : List ℕ) (n : ℕ) (f : Fit w) where
   -- the words are read
-  read-why : Read w n → (s : Layout) → layoutOf w ≡ s → Why w n (said (decodeOf w n))
+  read-why : WithinLimits w n → (s : Layout) → layoutOf w ≡ s → Why w n (said (decodeOf w n))
   read-why r (Unfound q) e = subst (Why w n) (sym (not-laid w n r e)) (unlaid r e)
   read-why r (Found s) e =
       let t = found-table w f e in
-      subst (λ v. Why v n (said (decodeOf v n))) (sym (t .2)) (table-why (t .0) (t .1) n (subst (λ v. Read v n) (t .2) r))
+      subst (λ v. Why v n (said (decodeOf v n))) (sym (t .2)) (table-why (t .0) (t .1) n (subst (λ v. WithinLimits v n) (t .2) r))
 
   why : Why w n (said (decodeOf w n))
   why = go (ltb n 16384) (ltb 8192 (length w)) refl refl
@@ -149,7 +149,7 @@ module _ (w : List ℕ) (n : ℕ) (f : Fit w) where
       go (inr (inr (inr i))) = ((omega arith, omega arith), λ j. omega arith)
 
   -- each number has its own reason
-  by-layout : {k p : ℕ} → k < 6 → (k ≡ LIMIT → ⊥) → Reason w n k p → Read w n × (layoutOf w ≡ unfound k p)
+  by-layout : {k p : ℕ} → k < 6 → (k ≡ LIMIT → ⊥) → Reason w n k p → WithinLimits w n × (layoutOf w ≡ unfound k p)
   by-layout l z (narrow i _ _) = absurd (omega arith)
   by-layout l z (long i _ _ _) = absurd (z i)
   by-layout l z (unlaid r e) = (r, e)
@@ -167,7 +167,7 @@ module _ (w : List ℕ) (n : ℕ) (f : Fit w) where
   by-limit (unlaid r e) = absurd (layout-number e .1 refl)
   by-limit (broken-rule i _ _) = absurd (omega arith)
 
-  by-index : {p : ℕ} → Reason w n INDEX p → Read w n × Breaks w p
+  by-index : {p : ℕ} → Reason w n INDEX p → WithinLimits w n × Breaks w p
   by-index (narrow i _ _) = absurd (omega arith)
   by-index (long i _ _ _) = absurd (omega arith)
   by-index (unlaid r e) = absurd (omega (arith, layout-number e .0 .1))
@@ -180,12 +180,13 @@ module _ (w : List ℕ) (n : ℕ) (f : Fit w) where
   numbered (broken-rule i _ _) = (omega arith, omega arith)
 
   -- what the layout refuses, decode refuses
-  lifted : (k p : ℕ) {B : Type 0} → k < 6 → (k ≡ LIMIT → ⊥) → Exactly (layoutOf w ≡ unfound k p) B → Exactly (said (decodeOf w n) ≡ no k p) (Read w n × B)
+  lifted : (k p : ℕ) {B : Type 0} → k < 6 → (k ≡ LIMIT → ⊥) → Exactly (layoutOf w ≡ unfound k p) B
+      → Exactly (said (decodeOf w n) ≡ no k p) (WithinLimits w n × B)
   lifted k p l z x = (λ e. let q = by-layout l z (reason e) in (q .0, x .0 (q .1)), λ h. not-laid w n (h .0) (x .1 (h .1)))
 
   -- words of a table that breaks a rule are refused
-  broke : {p : ℕ} → Read w n → Breaks w p → said (decodeOf w n) ≡ no INDEX p
-  broke {p} r (t, h, b, o) = subst (λ v. said (decodeOf v n) ≡ no INDEX p) (sym o) (breaks t h n (subst (λ v. Read v n) o r) p (first-from 1 _ b) b)
+  broke : {p : ℕ} → WithinLimits w n → Breaks w p → said (decodeOf w n) ≡ no INDEX p
+  broke {p} r (t, h, b, o) = subst (λ v. said (decodeOf v n) ≡ no INDEX p) (sym o) (breaks t h n (subst (λ v. WithinLimits v n) o r) p (first-from 1 _ b) b)
 
   -- the refusals by number
   says-refused : RefusedBy w n (said (decodeOf w n))
@@ -203,7 +204,7 @@ module _ (w : List ℕ) (n : ℕ) (f : Fit w) where
 -- What is accepted, and the room
 
 module _ (w : List ℕ) (n : ℕ) (enough : 16384 ≤ n) {modes states count : ℕ} (a : Accepted w modes states count) where
-  reads : Read (wordsOf (a .table)) n
+  reads : WithinLimits (wordsOf (a .table)) n
   reads = (enough, subst (λ v. length v ≤ 8192) (a .layout) (a .limit))
 
   -- the numbers that `Accepted` names are said

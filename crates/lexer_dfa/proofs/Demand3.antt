@@ -45,7 +45,7 @@ use Rattle.row_build.specs.declared.Rows.the-variants.{Built, Refused}
 use Rattle.row_build.specs.Answer.{said, Lent, lent, tooShort, withRows, parseRows, counted, asciiIn, wideIn, escapeIn, Builds}
 use Rattle.row_build.proofs.Joining.{length-numbers}
 use Rattle.row_build.proofs.Asking.{rows-asked}
-use Rattle.lexer_dfa.specs.Demand3.{Read, listOf, wordsOf, bitAt, RowArgs, RowsLeft, BuildAnswers, Asked, searchedFor, targetAt}
+use Rattle.lexer_dfa.specs.Demand3.{ListAccepted, listOf, wordsPerMask, bitAt, RowArgs, RowsLeft, BuildAnswers, Asked, searchedFor, targetAt}
 use Rattle.lexer_dfa.specs.Demand3.{contAt, Placed, RowsKept, RowsIn, SameLookups, SameAnswers, SameRows, MatrixAnswers, pointBit}
 use Rattle.lexer_dfa.specs.Demand3.{MasksAsked, MasksKept, Flipped, DistinctAnswers, MasksAgree}
 use Rattle.lexer_dfa.proofs.Buffers.{padded-at, padded-front, padded-stands, searched-is, searched-front, length-distinct, bit-distinct, bit-holds}
@@ -139,11 +139,11 @@ parsed-is (parsed ts) e = refl
 parsed-is (refused k p) e = let z : _≡_ {A = ℕ} 0 1 = cc in absurd (omega arith)
 
 -- a list that is asked for as document 01 says is not refused
-masks-parsed : (s n : ℕ) (w : List ℕ) → 4096 ≤ s → 8192 ≤ n → Read w → parseMasks s n w ≡ parsed (listOf w)
+masks-parsed : (s n : ℕ) (w : List ℕ) → 4096 ≤ s → 8192 ≤ n → ListAccepted w → parseMasks s n w ≡ parsed (listOf w)
 unfolding parseMasks parseFor
 masks-parsed s n w a b g = rw (le-ltb n 8192 b, le-ltb s 4096 a) (parsed-is (parse w) g)
 
-distinct-parsed : (s n d : ℕ) (w : List ℕ) → 4096 ≤ s → 8192 ≤ n → 8192 ≤ d → Read w → parseDistinct s n d w ≡ parsed (listOf w)
+distinct-parsed : (s n d : ℕ) (w : List ℕ) → 4096 ≤ s → 8192 ≤ n → 8192 ≤ d → ListAccepted w → parseDistinct s n d w ≡ parsed (listOf w)
 unfolding parseDistinct
 distinct-parsed s n d w a b c g = rw (le-ltb d 8192 c) (masks-parsed s n w a b g)
 
@@ -183,7 +183,7 @@ given a x l b = record { segments = b .1 .1 .1 .1 .0 .now; masks = b .1 .1 .1 .1
 
 -- Rows of an accepted list, with as many targets as it has distinct masks
 
-module _ (w targets conts : List ℕ) (good : Read w) (each : length targets ≡ length (distinctOf (listOf w))) {n m : ℕ} {l : RowsLeft}
+module _ (w targets conts : List ℕ) (good : ListAccepted w) (each : length targets ≡ length (distinctOf (listOf w))) {n m : ℕ} {l : RowsLeft}
     (s : Laid (listOf w) targets conts n m l) where
   laid-placed : (p : ℕ) → law.Placed (listOf w) targets conts p → Placed w targets conts n m l p
   laid-placed p h =
@@ -281,7 +281,7 @@ counted-masks : {n k : ℕ} (x : Masks) → masks.said x ≡ ok (n ∷ k ∷ [])
 counted-masks (Count a b) e = cc
 counted-masks (variant.Refused r) e = let z : _≡_ {A = ℕ} 0 1 = cc in absurd (omega arith)
 
-matrix-kept : (w : List ℕ) (x : Masks) (n k : ℕ) (s m : List ℕ) → Read w → Matrix x n s k m (parsed (listOf w)) → MasksKept w x s m
+matrix-kept : (w : List ℕ) (x : Masks) (n k : ℕ) (s m : List ℕ) → ListAccepted w → Matrix x n s k m (parsed (listOf w)) → MasksKept w x s m
 unfolding masks.counted segmentsIn masksIn
 matrix-kept w x n k s m good h =
     let ts = listOf w in
@@ -290,7 +290,7 @@ matrix-kept w x n k s m good h =
       count = length (matrix ts);
       answer = counted-masks x (h .says);
       bits = λ p i g l.
-          ap (λ (c : ℕ). pointBit s m c (wordsOf w) p i) many
+          ap (λ (c : ℕ). pointBit s m c (wordsPerMask w) p i) many
           ∙ bit-holds ts s m p i l (listed w good .order) g (zeros (n - length (segments (cutsOf ts)))) (zeros (k - length (flat (matrix ts))))
           (subst (λ (b : List ℕ). At b 0 (segments (cutsOf ts) ++ zeros (n - length (segments (cutsOf ts))))) (sym (h .low-high))
           (padded-stands n (segments (cutsOf ts))))

@@ -28,8 +28,8 @@ use Rattle.row_build.specs.declared.Rows.the-variants.{Built}
 use Rattle.row_build.proofs.build_rows.Reads as build
 
 -- "accepted": every record of the list is read; these are its transitions
-abbrev pub Read : List ℕ → Type 0
-Read w = isParsed (parse w) ≡ true
+abbrev pub ListAccepted : List ℕ → Type 0
+ListAccepted w = isParsed (parse w) ≡ true
 
 abbrev pub listOf : List ℕ → List Transition
 listOf w = accepted (parse w)
@@ -39,8 +39,8 @@ abbrev pub holdsAt : List ℕ → ℕ → ℕ → Bool
 holdsAt w i p = heldBy (listOf w) i p
 
 -- "ceil(n/64) words each"
-abbrev pub wordsOf : List ℕ → ℕ
-wordsOf w = wordsFor (length (listOf w))
+abbrev pub wordsPerMask : List ℕ → ℕ
+wordsPerMask w = wordsFor (length (listOf w))
 
 -- bit i of the mask that stands at a place of a buffer of 64-bit words
 abbrev pub bitAt : List ℕ → ℕ → ℕ → ℕ
@@ -79,7 +79,7 @@ BuildAnswers a x l =
 
 -- "For any accepted transition list and one target per distinct mask", and a continuation for each, with the room that document 01 states
 pub record Asked (a : RowArgs) : Type 0 where
-  pub accepted : Read (a .list .now)
+  pub accepted : ListAccepted (a .list .now)
   pub a-target-each : length (a .targets .now) ≡ length (distinctOf (listOf (a .list .now)))
   pub a-continuation-each : length (a .conts .now) ≡ length (distinctOf (listOf (a .list .now)))
   pub segments-room : 4096 ≤ length (a .segments .now)
@@ -103,7 +103,7 @@ contAt l m p = searchedFor NONE (l .escape) m p
 
 -- the distinct mask k, as it stands in its buffer, is of "exactly the transitions holding that point"
 abbrev pub OfExactly : List ℕ → List ℕ → ℕ → ℕ → Type 0
-OfExactly w distinct p k = (i : ℕ) → i < length (listOf w) → bitAt distinct (k * wordsOf w) i ≡ bit (holdsAt w i p)
+OfExactly w distinct p k = (i : ℕ) → i < length (listOf w) → bitAt distinct (k * wordsPerMask w) i ≡ bit (holdsAt w i p)
 
 -- "the target looked up at each code point .. is the one given for exactly the transitions holding that point": one distinct mask is of these, and no other;
 -- "the continuation looked up is likewise the one given, and none where the target is dead"
@@ -184,15 +184,15 @@ pointBit s m n k p i = bitFrom s m k p i n 0 0
 
 -- "accepted", with the room that document 01 states
 pub record MasksAsked (list segments masks : RefT (List ℕ)) : Type 0 where
-  pub accepted : Read (list .now)
+  pub accepted : ListAccepted (list .now)
   pub segments-room : 4096 ≤ length (segments .now)
   pub masks-room : 8192 ≤ length (masks .now)
 
 -- the call answers masks, and each bit at each point says whether its transition holds it
 pub record MasksKept (w : List ℕ) (x : Masks) (s m : List ℕ) : Type 0 where
   pub count : ℕ
-  pub answer : x ≡ Count count (wordsOf w)
-  pub bits : (p i : ℕ) → p < points → i < length (listOf w) → pointBit s m count (wordsOf w) p i ≡ bit (holdsAt w i p)
+  pub answer : x ≡ Count count (wordsPerMask w)
+  pub bits : (p i : ℕ) → p < points → i < length (listOf w) → pointBit s m count (wordsPerMask w) p i ≡ bit (holdsAt w i p)
 
 -- "each transition's bit is flipped at every point": of the masks of v and of w
 pub record Flipped (v : List ℕ) (x : Masks) (s m : List ℕ) (w : List ℕ) (y : Masks) (s′ m′ : List ℕ) : Type 0 where
@@ -200,7 +200,7 @@ pub record Flipped (v : List ℕ) (x : Masks) (s m : List ℕ) (w : List ℕ) (y
   pub second : MasksKept w y s′ m′
   pub as-many : length (listOf v) ≡ length (listOf w)
   pub flips : (p i : ℕ) → p < points → i < length (listOf v) →
-      pointBit s′ m′ (second .count) (wordsOf w) p i ≡ 1 - pointBit s m (first .count) (wordsOf v) p i
+      pointBit s′ m′ (second .count) (wordsPerMask w) p i ≡ 1 - pointBit s m (first .count) (wordsPerMask v) p i
 
 -- `distinct_masks` may answer x by its own contract, and leave these numbers in the buffer for distinct masks
 abbrev pub DistinctAnswers : (list segments masks out : RefT (List ℕ)) → Masks → List ℕ → Type 0

@@ -12,7 +12,7 @@ use Rattle.run_class.specs.Byte.{upFrom}
 use Rattle.run_shape.specs.declared.RunWords.{RunWords}
 use Rattle.run_shape.specs.Shape.{Got, run, refused, gotSaid, shape}
 use Rattle.run_shape.specs.Classify.{classified}
-use Rattle.run_shape.specs.Words.{wordsOf}
+use Rattle.run_shape.specs.Words.{wordsOfRun}
 use Rattle.run_shape.specs.Scan.{scanSaid}
 use Rattle.buffer.specs.Over.{zeros}
 use Rattle.room_decode.specs.Decode as codec
@@ -51,7 +51,7 @@ wordList w = take (w .length) (w .first ∷ w .second ∷ w .third ∷ [])
 
 -- what is said of the run that classification gave, or the refusal that it gave
 abbrev pub wordsSaid : Got → Said
-wordsSaid (run r) = ok (wordList (wordsOf (r .kind) (r .ranges)))
+wordsSaid (run r) = ok (wordList (wordsOfRun (r .kind) (r .ranges)))
 wordsSaid (refused n p) = no n p
 
 abbrev pub scannedSaid : List ℕ → Got → Said

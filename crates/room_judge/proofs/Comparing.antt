@@ -136,9 +136,10 @@ unfolding standing placeAfter
 past-stays [] d = refl
 past-stays (y ∷ ys) d = let h : length d ≤ length d + 1 = omega arith in rw (← stands-past y (length d + 1) d h)
 
-place-after-append : (xs ys : List ℕ) (n : ℕ) (d : List ℕ) → placeAfter (standing (xs ++ ys) n d) d ≡ placeAfter (standing ys (placeAfter (standing xs n d) d) d) d
+after-append : (xs ys : List ℕ) (n : ℕ) (d : List ℕ)
+    → placeAfter (standing (xs ++ ys) n d) d ≡ placeAfter (standing ys (placeAfter (standing xs n d) d) d) d
 unfolding andThen placeAfter
-place-after-append xs ys n d = ap (λ (q : Place). placeAfter q d) (standing-append xs ys n d) ∙ go (standing xs n d)
+after-append xs ys n d = ap (λ (q : Place). placeAfter q d) (standing-append xs ys n d) ∙ go (standing xs n d)
   where
     go : (o : Place) → placeAfter (andThen o (λ p. standing ys p d)) d ≡ placeAfter (standing ys (placeAfter o d) d) d
     go (Next p) = refl
@@ -165,8 +166,8 @@ module _ (w : List ℕ) (s : Sections) (n : ℕ) (d : List ℕ) where
       → l ≡ placeAfter (standing D k d) d
       → m ≡ placeAfter (standing E l d) d → m ≡ placeAfter (standing (places w s) n d) d
   places-stood {i} {j} {k} {l} f g h o p =
-      p ∙ sym (place-after-append A (B ++ (C ++ (D ++ E))) n d ∙ (rw (← f) (place-after-append B (C ++ (D ++ E)) i d ∙ (rw (← g) (place-after-append C (D ++ E) j d
-      ∙ (rw (← h) (place-after-append D E k d ∙ (rw (← o)))))))))
+      p ∙ sym (after-append A (B ++ (C ++ (D ++ E))) n d ∙ (rw (← f) (after-append B (C ++ (D ++ E)) i d ∙ (rw (← g) (after-append C (D ++ E) j d
+      ∙ (rw (← h) (after-append D E k d ∙ (rw (← o)))))))))
 
 -- Flags: each record of both sections is asked
 

@@ -18,7 +18,7 @@ use Rattle.run_shape.specs.declared.RunWords.{RunWords}
 use Rattle.run_shape.specs.declared.Answered.the-variants.{Ran, Refused as Unread}
 use Rattle.run_shape.specs.Shape.{run, held, answered, Gives}
 use Rattle.run_shape.specs.Classify.{classification, classified}
-use Rattle.run_shape.specs.Words.{wordsOf}
+use Rattle.run_shape.specs.Words.{wordsOfRun}
 use Rattle.run_shape.proofs.Answers.{given}
 use Rattle.rule_words.proofs.Laws.{past-end}
 use Rattle.rule_words.specs.Rules.{targets, rowOf, runGood, rowNumber, stands, classifiedWords}
@@ -145,7 +145,7 @@ module _ (w : List ℕ) (a k state : ℕ) {row : List ℕ} {q : RunAnswer} (e : 
   unfolding classified
   is-run = given (run (held (classification state (rowOf w a k)))) (rw (e, eq-eqb (length (rowOf w a k)) 128 (targets-long w 64 (a + (1 + 64 * k)))) at g)
 
-  pub classified-run : {kind : AsciiRun} {r : RunWords} → q .answer ≡ Ran kind → r ≡ wordsOf kind (q .ranges) → r ≡ classifiedWords w a k state
+  pub classified-run : {kind : AsciiRun} {r : RunWords} → q .answer ≡ Ran kind → r ≡ wordsOfRun kind (q .ranges) → r ≡ classifiedWords w a k state
   unfolding classifiedWords
   classified-run {kind} f h =
       let x = held (classification state (rowOf w a k)) in

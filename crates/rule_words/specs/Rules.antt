@@ -11,7 +11,7 @@ use Rattle.run_shape.specs.declared.Run.{Run}
 use Rattle.run_shape.specs.declared.RunWords.{RunWords}
 use Rattle.run_shape.specs.Shape.{held}
 use Rattle.run_shape.specs.Classify.{classification}
-use Rattle.run_shape.specs.Words.{wordsOf}
+use Rattle.run_shape.specs.Words.{wordsOfRun}
 use Rattle.word_reader.specs.declared.Sections.{Sections}
 use Rattle.word_reader.specs.declared.Place.{Place}
 use Rattle.word_reader.specs.declared.Place.the-variants.{Next, Refused}
@@ -137,12 +137,13 @@ targets w (suc n) at = getD w at 0 % 65536 ∷ getD w at 0 / 65536 ∷ targets w
 abbrev pub rowOf : List ℕ → ℕ → ℕ → List ℕ
 rowOf w a k = targets w 64 (a + (1 + 64 * k))
 
--- the words of the classification of row k at state i
-abbrev pub runWords : Run → RunWords
-runWords r = wordsOf (r .kind) (r .ranges)
+-- the words of a run
+abbrev pub heldWords : Run → RunWords
+heldWords r = wordsOfRun (r .kind) (r .ranges)
 
+-- the words of the classification of row k at state i
 unfoldable pub classifiedWords : List ℕ → ℕ → ℕ → ℕ → RunWords
-classifiedWords w a k i = runWords (held (classification i (rowOf w a k)))
+classifiedWords w a k i = heldWords (held (classification i (rowOf w a k)))
 
 -- the words of a run, one or three, stand at a place
 unfoldable pub stands : List ℕ → ℕ → RunWords → Bool

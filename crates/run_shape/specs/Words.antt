@@ -78,10 +78,10 @@ abbrev pub oneWord : ℕ → RunWords
 oneWord word = record { length = 1; first = word; second = 0; third = 0 }
 
 -- the words of a run
-abbrev pub wordsOf : AsciiRun → AsciiRanges → RunWords
-wordsOf None r = oneWord 0
-wordsOf Any r = oneWord 1
-wordsOf (Until1 a) r = oneWord (2 + 256 * a)
-wordsOf (Until2 a b) r = oneWord (3 + 256 * a + 65536 * b)
-wordsOf (Until3 a b c) r = oneWord (4 + 256 * a + 65536 * b + 16777216 * c)
-wordsOf Ranges r = record { length = 3; first = 5 + 256 * r .count; second = packedOf (r .ranges) .first; third = packedOf (r .ranges) .second }
+abbrev pub wordsOfRun : AsciiRun → AsciiRanges → RunWords
+wordsOfRun None r = oneWord 0
+wordsOfRun Any r = oneWord 1
+wordsOfRun (Until1 a) r = oneWord (2 + 256 * a)
+wordsOfRun (Until2 a b) r = oneWord (3 + 256 * a + 65536 * b)
+wordsOfRun (Until3 a b c) r = oneWord (4 + 256 * a + 65536 * b + 16777216 * c)
+wordsOfRun Ranges r = record { length = 3; first = 5 + 256 * r .count; second = packedOf (r .ranges) .first; third = packedOf (r .ranges) .second }

@@ -3,7 +3,7 @@ ghost use mathlib.Core.Path.{_≡_};
 ghost use Rattle.refusal.specs.Said.{FIELD};
 ghost use Rattle.run_ranges.specs.Ranges.{rangesOfRun};
 ghost use Rattle.run_shape.specs.Shape.{Gives, answered, refused, plain};
-ghost use Rattle.run_shape.specs.Words.{readAt, readAlone, orField, shortRun, kindOf, bytesOf, rangesRun, wordsOf, oneWord};
+ghost use Rattle.run_shape.specs.Words.{readAt, readAlone, orField, shortRun, kindOf, bytesOf, rangesRun, wordsOfRun, oneWord};
 ghost use Prim.Native.Nat.{_<_};
 use refusal::FIELD;
 use refusal::Refusal;
@@ -153,7 +153,7 @@ fn wide(byte: u8) -> u32
 
 // The words of a run.
 pub fn write_serialized(run: Run) -> RunWords
-    ensures { λ r. ⌜ r ≡ wordsOf (run .kind) (run .ranges) ⌝ }
+    ensures { λ r. ⌜ r ≡ wordsOfRun (run .kind) (run .ranges) ⌝ }
 {
     let kind = run.kind;
     match kind {
