@@ -8,9 +8,10 @@ use borrow.Author.Tests.{lt-ltb}
 use Rattle.room_find.specs.declared.Found.{Found}
 use Rattle.room_find.specs.declared.Found.the-variants as place
 use Rattle.refusal.specs.Header.{RUNS-START, WIDE-START, ACCEPTS-START, ESCAPES-START, CONTINUATIONS-START}
+use Rattle.refusal.specs.Lists.{each}
 use Rattle.room_find.specs.Room.{listedIn, wordsEnd, endOf, pastLists, listedAt}
 use Rattle.room_find.proofs.There.{listed-there}
-use Rattle.law_tables.specs.Table.{Table, each}
+use Rattle.law_tables.specs.Table.{Table}
 use Rattle.law_lookups.proofs.Stands.{Within, Section, Listed, counts, opens, inside, recorded}
 use Rattle.law_lookups.proofs.Held.{Held}
 

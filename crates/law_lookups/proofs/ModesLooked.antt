@@ -10,16 +10,17 @@ use lib.ListN.{length, getD}
 use borrow.Author.Tests.{le-leb, lt-ltb, eq-eqb}
 use Rattle.refusal.specs.Said.{ok, NOT-TABLE}
 use Rattle.refusal.specs.Fixed.{NONE}
-use Rattle.refusal.specs.Lists.{pick, some, every}
+use Rattle.refusal.specs.Lists.{pick, some, every, each}
 use Rattle.look_modes.specs.Start.{compiled}
 use Rattle.look_modes.specs.Modes.{numbers, upTo, modesUpTo, ofModes, hasCompiledModes}
 use Rattle.look_mode_lists.specs.Written.{refused}
 use Rattle.look_mode_lists.specs.Flags.{flagsFor, modeFlags}
 use Rattle.look_mode_lists.specs.Counts.{countsFor, countsWith, asked, modeStateCounts}
-use Rattle.law_tables.specs.Table.{Table, Fields, All, Start, each, modeWords}
+use Rattle.law_tables.specs.Table.{Table, Fields, All, Start, modeWords}
 use Rattle.law_tables.specs.Rules.{Rules, NoneOr}
 use Rattle.law_tables.proofs.Codec.{At, same, on, at-head}
 use Rattle.law_tables.proofs.Records.{or-right}
+use Rattle.law_tables.proofs.Judged.{each-word}
 use Rattle.law_lookups.proofs.Stands.{counts, opens, inside, sized, all-of}
 use Rattle.law_lookups.proofs.Held.{Held}
 use Rattle.law_lookups.proofs.Looked.{count-is}
@@ -29,11 +30,6 @@ numbers-are : (l : List ℕ) {w : List ℕ} {at : ℕ} (post : List ℕ) → At 
 unfolding numbers
 numbers-are [] post a = refl
 numbers-are (x ∷ l) post a = rw (at-head a) (ap (λ m. x ∷ m) (numbers-are l post (on (x ∷ []) (l ++ post) a)))
-
-each-mode : (l : List ℕ) → each modeWords l ≡ l
-unfolding each
-each-mode [] = refl
-each-mode (x ∷ l) = ap (λ m. x ∷ m) (each-mode l)
 
 every-holds : (P : ℕ → Type 0) (p : ℕ → Bool) → ((x : ℕ) → P x → p x ≡ true) → (l : List ℕ) → All P l → every p l ≡ true
 unfolding every All
@@ -54,7 +50,7 @@ module _ (t : Table) (h : Fields t) (r : Rules t) (w : List ℕ) (k : Held t w) 
   starts =
       let z = k .modes in
       let a = on (length (t .modes) ∷ []) (each modeWords (t .modes) ++ z .post) (z .stands) in
-      numbers-are (t .modes) (z .post) (same a (ap (λ l. l ++ z .post) (each-mode (t .modes))))
+      numbers-are (t .modes) (z .post) (same a (ap (λ l. l ++ z .post) (each-word (t .modes))))
 
   -- what is done with the modes of the room is done with the table's
   of-modes : {A : Type 0} (limit : ℕ) (f : List ℕ → A) (o : A) → every (upTo limit) (t .modes) ≡ true → ofModes w (modesUpTo w limit) f o ≡ f (t .modes)

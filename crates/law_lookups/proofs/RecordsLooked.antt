@@ -9,7 +9,7 @@ use lib.ListN.{length, getD, take, length-append, List·getD-eq-default}
 use lib.Seq.{take-at}
 use borrow.Author.Tests.{le-leb, lt-ltb, ltb-true, ltb-false}
 use Rattle.refusal.specs.Said.{ok, no, NOT-TABLE}
-use Rattle.refusal.specs.Lists.{pick}
+use Rattle.refusal.specs.Lists.{pick, each}
 use Rattle.room_fill.specs.Room.{flag}
 use Rattle.room_find.specs.declared.Found.the-variants as place
 use Rattle.refusal.specs.Header.{CONTINUATIONS-START}
@@ -17,7 +17,7 @@ use Rattle.room_find.specs.Room.{wordsEnd, listedAt, follow}
 use Rattle.room_find.proofs.There.{listed-absent}
 use Rattle.look_accepts.specs.Record as accepts
 use Rattle.look_continuation_records.specs.Configs as configs
-use Rattle.law_tables.specs.Table.{Table, Config, Continuation, each, counted, actionWords, contextWords}
+use Rattle.law_tables.specs.Table.{Table, Config, Continuation, counted, actionWords, contextWords}
 use Rattle.law_tables.proofs.Codec.{At, same, on, to, at-head, at-drop}
 use Rattle.law_lookups.specs.Looks.{accept, acceptRecordOf, continuation, continuationRecordOf, part}
 use Rattle.law_lookups.proofs.Stands.{Within, counts, opens, inside, threes}

@@ -6,10 +6,10 @@ use mathlib.Core.Path.{_≡_, refl, ap, _∙_}
 use mathlib.Core.List.{List, [], _∷_, _++_, append-assoc}
 use lib.ListN.{length, getD, take, length-append}
 use lib.Seq.{take-at}
+use Rattle.refusal.specs.Lists.{each}
 use Rattle.word_reader.specs.declared.Place.{Place}
-use Rattle.room_fill.specs.Room as room
 use Rattle.room_fill.specs.Room.{starts, startsFrom, copied, flag, renewed, acceptMade, configMade, continuationMade, made, shifted, placed, places}
-use Rattle.law_tables.specs.Table.{Accept, Config, Continuation, All, each, counted, actionWords, acceptWords, contextWords, configWords, continuationWords}
+use Rattle.law_tables.specs.Table.{Accept, Config, Continuation, All, counted, actionWords, acceptWords, contextWords, configWords, continuationWords}
 use Rattle.law_tables.proofs.Codec.{At, Codec, same, on, to, at-length, at-head, at-drop}
 use Rattle.law_tables.proofs.Records as record-codecs
 use Rattle.law_tables.proofs.Records.{all-always}
@@ -33,8 +33,8 @@ starts-are {f = f} c (x ∷ xs) w at post v a =
 
 -- what is written for each
 made-each : {A : Type 0} (f h : A → List ℕ) (w : List ℕ) (g : ℕ → List ℕ) → ((x : A) (at : ℕ) (post : List ℕ) → At w at (f x ++ post) → g at ≡ h x)
-    → (xs : List A) (at : ℕ) (post : List ℕ) → At w at (each f xs ++ post) → room.each g (startsOf f xs at) ≡ each h xs
-unfolding startsOf each room.each
+    → (xs : List A) (at : ℕ) (post : List ℕ) → At w at (each f xs ++ post) → each g (startsOf f xs at) ≡ each h xs
+unfolding startsOf each
 made-each f h w g is [] at post a = refl
 made-each f h w g is (x ∷ xs) at post a =
     let b = same a (append-assoc (f x) (each f xs) post) in
@@ -52,20 +52,20 @@ renewed-is {r = r} {f = f} c h w g is xs at post v a =
     rw (at-head a, s, made-each f h w (g w) is xs (at + 1) post b)
 
 -- its places
-pub places-length : {A : Type 0} (f : A → List ℕ) (xs : List A) (at : ℕ) → length (room.each shifted (startsOf f xs at)) ≡ length xs
-unfolding startsOf room.each
+pub places-length : {A : Type 0} (f : A → List ℕ) (xs : List A) (at : ℕ) → length (each shifted (startsOf f xs at)) ≡ length xs
+unfolding startsOf each
 places-length f [] at = refl
 places-length f (x ∷ xs) at = ap suc (places-length f xs (at + length (f x)))
 
 place-is : {A : Type 0} (f : A → List ℕ) (xs : List A) (at i : ℕ) → i < length xs
-    → getD (room.each shifted (startsOf f xs at)) i 0 ≡ at + 9 + length (each f (take i xs))
-unfolding startsOf room.each each
+    → getD (each shifted (startsOf f xs at)) i 0 ≡ at + 9 + length (each f (take i xs))
+unfolding startsOf each
 place-is f [] at i h = absurd (not-suc-le-zero h)
 place-is f (x ∷ xs) at zero h = omega arith
 place-is f (x ∷ xs) at (suc i) h = omega (arith, place-is f xs (at + length (f x)) i (le-of-suc-le-suc h), length-append (f x) (each f (take i xs)))
 
 abbrev pub placesOf : {A : Type 0} → (A → List ℕ) → List A → ℕ → List ℕ
-placesOf f xs at = room.each shifted (startsOf f xs (at + 1))
+placesOf f xs at = each shifted (startsOf f xs (at + 1))
 
 pub placed-is : {A : Type 0} {r : List ℕ → ℕ → Place} {f : A → List ℕ} {G : A → Type 0} (c : Codec A r f G) (xs : List A) (w : List ℕ) (at : ℕ) (post : List ℕ)
     → All G xs → At w at (counted f xs ++ post) → placed r w at ≡ placesOf f xs at

@@ -6,7 +6,8 @@ use mathlib.Core.Path.{_≡_, refl, sym, ap, subst, _∙_}
 use mathlib.Core.List.{List, [], _∷_, _++_, append-assoc}
 use lib.ListN.{length, getD, take, drop, length-append, List·getD-append}
 use lib.Seq.{getD-append-add, take-append-add}
-use Rattle.law_tables.specs.Table.{each, counted, All}
+use Rattle.refusal.specs.Lists.{each}
+use Rattle.law_tables.specs.Table.{counted, All}
 use Rattle.law_tables.proofs.Codec.{At, same, on, to, at-length, at-head}
 
 -- the words of record i stand between those of the records before it and those behind it

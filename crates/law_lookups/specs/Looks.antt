@@ -7,12 +7,12 @@ use lib.Dec.{ltb, leb, eqb}
 use lib.ListN.{length, getD, take, drop}
 use Rattle.refusal.specs.Said.{Said, ok, no, STATE}
 use Rattle.refusal.specs.Fixed.{NONE}
-use Rattle.refusal.specs.Lists.{pick, some}
+use Rattle.refusal.specs.Lists.{pick, some, each}
 use Rattle.run_shape.specs.Shape.{Got, run, refused, held}
 use Rattle.run_shape.specs.Classify.{classification}
 use Rattle.run_shape.specs.Scan.{skipped, scanSaid}
 use Rattle.room_fill.specs.Room.{flag}
-use Rattle.law_tables.specs.Table.{Table, State, Range, Accept, Escape, Config, Continuation, each, actionWords, contextWords, configWords}
+use Rattle.law_tables.specs.Table.{Table, State, Range, Accept, Escape, Config, Continuation, actionWords, contextWords, configWords}
 use Rattle.law_tables.specs.Rules.{absent, rowOf}
 use Rattle.look_modes.specs.Start.{compiled, modeStart}
 use Rattle.look_modes.specs.Modes.{stateCount, hasCompiledModes}

@@ -9,14 +9,13 @@ use lib.Dec.{eqb}
 use lib.ListN.{length, getD, take, length-append, length-map}
 use lib.Seq.{take-at}
 use Rattle.refusal.specs.Fixed.{tag}
-use Rattle.refusal.specs.Lists.{pick}
+use Rattle.refusal.specs.Lists.{pick, each}
 use Rattle.word_reader.specs.declared.Place.{Place}
 use Rattle.word_layout.specs.declared.Layout.the-variants.{Found}
 use Rattle.word_layout.specs.Layout.{layoutOf}
-use Rattle.room_fill.specs.Room as room
 use Rattle.room_fill.specs.Room.{startsFrom, starts, copied, flag, renewed, acceptMade, configMade}
 use Rattle.room_fill.specs.Room.{continuationMade, made, shifted, placed, four, header, numbers}
-use Rattle.law_tables.specs.Table.{Table, Action, Accept, Context, Config, Continuation, Fields, ContinuationFields, All, each, counted}
+use Rattle.law_tables.specs.Table.{Table, Action, Accept, Context, Config, Continuation, Fields, ContinuationFields, All, counted}
 use Rattle.law_tables.specs.Table.{sectionWords, wordsOf, modeWords, stateWords, runWords, asciiWords, wideWords, actionWords}
 use Rattle.law_tables.specs.Table.{acceptWords, escapeWords, contextWords, configWords, continuationWords}
 use Rattle.law_tables.specs.Places.{sectionEnd, statesPlace, runsPlace, asciiPlace, widePlace, acceptsPlace, escapesPlace, continuationsPlace, sectionsOf}
@@ -124,8 +123,8 @@ offsets f (x ∷ xs) at = (at + 9) ∷ offsets f xs (at + length (f x))
 
 module _ {A : Type 0} {r : List ℕ → ℕ → Place} {f : A → List ℕ} {G : A → Type 0} (c : Codec A r f G) where
   pub starts-are : (xs : List A) (w : List ℕ) (at : ℕ) (post : List ℕ) → All G xs → At w at (each f xs ++ post)
-      → room.each shifted (starts (r w) (length xs) at) ≡ offsets f xs at
-  unfolding starts startsFrom room.each each All
+      → each shifted (starts (r w) (length xs) at) ≡ offsets f xs at
+  unfolding starts startsFrom each All
   starts-are [] w at post v a = refl
   starts-are (x ∷ xs) w at post v a =
       let b = same a (append-assoc (f x) (each f xs) post) in
@@ -136,8 +135,8 @@ module _ {A : Type 0} {r : List ℕ → ℕ → Place} {f : A → List ℕ} {G :
   module _ (norm : List ℕ → ℕ → List ℕ) (g : A → A)
       (k : (x : A) (w : List ℕ) (at : ℕ) (post : List ℕ) → G x → At w at (f x ++ post) → norm w at ≡ f (g x)) where
     pub each-anew : (xs : List A) (w : List ℕ) (at : ℕ) (post : List ℕ) → All G xs → At w at (each f xs ++ post)
-        → room.each (norm w) (starts (r w) (length xs) at) ≡ each f (map g xs)
-    unfolding starts startsFrom room.each each All
+        → each (norm w) (starts (r w) (length xs) at) ≡ each f (map g xs)
+    unfolding starts startsFrom each All
     each-anew [] w at post v a = refl
     each-anew (x ∷ xs) w at post v a =
         let b = same a (append-assoc (f x) (each f xs) post) in

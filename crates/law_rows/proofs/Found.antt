@@ -6,10 +6,10 @@ use mathlib.Core.Bool.{Bool, true, false}
 use mathlib.Core.List.{List, [], _∷_, _++_}
 use lib.Dec.{leb}
 use lib.ListN.{length, getD}
-use Rattle.refusal.specs.Lists.{pick}
+use Rattle.refusal.specs.Lists.{pick, each}
 use Rattle.room_find.specs.declared.Hit.the-variants as hit
 use Rattle.room_find.specs.Search.{found, given}
-use Rattle.law_tables.specs.Table.{each, rangeWords}
+use Rattle.law_tables.specs.Table.{rangeWords}
 use Rattle.law_tables.proofs.Codec.{At, on, at-head}
 use Rattle.law_lookups.specs.Looks.{goalAt}
 use Rattle.law_rows.specs.Row.{Row, numbers}

@@ -5,8 +5,8 @@ use mathlib.Core.Bool.{Bool, _&&_}
 use mathlib.Core.List.{List, [], _∷_}
 use lib.Dec.{ltb, eqb}
 use lib.ListN.{getD}
-use Rattle.refusal.specs.Lists.{pick}
-use Rattle.law_tables.specs.Table.{Range, each, rangeWords}
+use Rattle.refusal.specs.Lists.{pick, each}
+use Rattle.law_tables.specs.Table.{Range, rangeWords}
 use Rattle.law_lookups.specs.Looks.{goalAt}
 
 abbrev pub Row : Type 0

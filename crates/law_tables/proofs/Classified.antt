@@ -10,7 +10,7 @@ use native.Mathlib.Omega.{arith}
 use lib.Dec.{leb, eqb}
 use lib.ListN.{length, getD}
 use borrow.Author.Tests.{leb-true, eqb-false}
-use Rattle.refusal.specs.Lists.{pick}
+use Rattle.refusal.specs.Lists.{pick, each}
 use Rattle.run_ranges.specs.declared.AsciiRange.{AsciiRange}
 use Rattle.run_ranges.specs.Ranges.{exitsAt, rangesFrom, upToFour}
 use Rattle.run_ranges.proofs.Maximal.{ranges-ordered}
@@ -20,7 +20,7 @@ use Rattle.run_shape.specs.Classify.{exitsFrom, byRanges, byExits, classificati
 use Rattle.word_reader.specs.Records.{runAt}
 use Rattle.rule_words.specs.Rules as words
 use Rattle.rule_words.specs.Rules.{stands, classifiedWords, runGood, rowNumber}
-use Rattle.law_tables.specs.Table.{Table, State, Fields, All, RunFields, each, packed, bytes, wordsOf, stateWords, runWords, asciiWords}
+use Rattle.law_tables.specs.Table.{Table, State, Fields, All, RunFields, packed, bytes, wordsOf, stateWords, runWords, asciiWords}
 use Rattle.law_tables.specs.Places.{statesPlace, runsPlace, asciiPlace}
 use Rattle.law_tables.specs.Rules.{Good, NoneOr, targets, absent, rowOf, Rule2, Rule3, Rule4}
 use Rattle.law_tables.proofs.Codec.{At, start, same, on, to, at-head}

@@ -10,11 +10,11 @@ use lib.ListN.{length, getD, take, drop, length-append, take-append-drop}
 use lib.Seq.{getD-at, drop-at, take-at, length-take-le}
 use borrow.Author.Tests.{lt-ltb, le-ltb, le-leb, leb-true}
 use Rattle.refusal.specs.Said.{FIELD}
-use Rattle.refusal.specs.Lists.{pick}
+use Rattle.refusal.specs.Lists.{pick, each}
 use Rattle.word_reader.specs.declared.Place.{Place}
 use Rattle.word_reader.specs.declared.Place.the-variants.{Next, Refused}
 use Rattle.word_reader.specs.Parse.{refused, short, andThen, word, fields, block, many, section, both}
-use Rattle.law_tables.specs.Table.{each, counted, All}
+use Rattle.law_tables.specs.Table.{counted, All}
 use Rattle.law_tables.specs.Whole.{Fit}
 
 -- w goes on with rest at place `at`

@@ -8,10 +8,11 @@ use native.Mathlib.Omega.{arith}
 use lib.ListN.{length, take, replicate, length-append, length-replicate}
 use lib.Seq.{take-append-seam}
 use Rattle.refusal.specs.Fixed.{tag}
+use Rattle.refusal.specs.Lists.{each}
 use Rattle.run_shape.specs.Shape.{none}
 use Rattle.word_reader.specs.Parse.{many, section, both}
 use Rattle.word_reader.specs.Records.{runAt, contextAt}
-use Rattle.law_tables.specs.Table.{Table, Context, Continuation, each, counted, modeWords, stateWords, runWords, asciiWords, wideWords, acceptWords}
+use Rattle.law_tables.specs.Table.{Table, Context, Continuation, counted, modeWords, stateWords, runWords, asciiWords, wideWords, acceptWords}
 use Rattle.law_tables.specs.Table.{escapeWords, contextWords, configWords, continuationWords, sectionWords, All, RunFields, ContinuationFields, Fields}
 use Rattle.law_tables.specs.Fronts.{One, RunDue, ContextDue}
 use Rattle.law_tables.proofs.Whole.{sectionsAt}

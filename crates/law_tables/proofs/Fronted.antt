@@ -10,7 +10,7 @@ use lib.Dec.{leb, eqb}
 use lib.ListN.{length, take, drop}
 use borrow.Author.Tests.{eqb-true, eqb-false, le-leb}
 use Rattle.refusal.specs.Said.{FIELD}
-use Rattle.refusal.specs.Lists.{pick, every}
+use Rattle.refusal.specs.Lists.{pick, every, each}
 use Rattle.run_ranges.specs.Ranges.{rangesOfRun}
 use Rattle.run_shape.specs.declared.AsciiRun.the-variants.{Ranges}
 use Rattle.run_shape.specs.declared.Run.{Run}
@@ -21,7 +21,7 @@ use Rattle.word_reader.specs.declared.Place.the-variants.{Next}
 use Rattle.word_reader.specs.Parse.{short, block, many, section, both}
 use Rattle.word_reader.specs.Records.{any, target, start, afterRun, modeAt, stateAt, runAt, asciiAt, wideAt, acceptAt, escapeAt}
 use Rattle.word_reader.specs.Records.{contextAt, goodContext, tripleAt, rangeAt, configAt, continuationAt}
-use Rattle.law_tables.specs.Table.{State, Range, Accept, Escape, Context, Continuation, each, counted, modeWords, stateWords, runWords}
+use Rattle.law_tables.specs.Table.{State, Range, Accept, Escape, Context, Continuation, counted, modeWords, stateWords, runWords}
 use Rattle.law_tables.specs.Table.{asciiWords, wideWords, acceptWords, escapeWords, contextWords, continuationWords, All, Start}
 use Rattle.law_tables.specs.Table.{StateFields, RunFields, AsciiFields, RangeFields, ContinuationFields}
 use Rattle.law_tables.specs.Whole.{Fit}

@@ -17,13 +17,14 @@ use Rattle.word_reader.specs.declared.Place.the-variants.{Next}
 use Rattle.rule_words.specs.Rules as words
 use Rattle.rule_words.specs.Rules.{everyFrom, walk, every, everyIn, sized, good, noneOr, present, follows, nextFrom, searchable, thirds, eachWord, refersBelow}
 use Rattle.rule_words.specs.Rules.{below, stateGood, bothGood, wideGood, escapeGood, configGood, continuationWith, continuationGood}
-use Rattle.law_tables.specs.Table.{Table, State, Range, Escape, Context, Config, Continuation, Fields, All, each, counted, wordsOf, modeWords}
+use Rattle.law_tables.specs.Table.{Table, State, Range, Escape, Context, Config, Continuation, Fields, All, counted, wordsOf, modeWords}
 use Rattle.law_tables.specs.Table.{stateWords, rangeWords, wideWords, escapeWords, contextWords, configWords, continuationWords}
 use Rattle.law_tables.specs.Places.{statesPlace, runsPlace, asciiPlace, widePlace, acceptsPlace, escapesPlace, continuationsPlace}
 use Rattle.law_tables.specs.Rules.{Numbered, NoneOr, Good, Searchable, targets, RefersBelow, Rule1, Rule2, Rule3, Rule5, Rule6, Rule7, Rule8, Rule9}
 use Rattle.law_tables.proofs.Codec.{At, Codec, same, on, to, at-head, Always}
 use Rattle.law_tables.proofs.Records.{mode, state, ascii, wide-row, escape, config, continuation, all-always, or-split, or-right}
 use Rattle.refusal.proofs.Lists.{and-split}
+use Rattle.refusal.specs.Lists.{each}
 use Rattle.law_tables.proofs.Placed.{modes-stand, states-stand, runs-stand, ascii-stand, wide-stand, accepts-stand, escapes-stand}
 use Rattle.law_tables.proofs.Placed.{continuations-stand, fromStates, fromRuns, fromWide, fromAccepts, fromContinuations}
 
@@ -203,7 +204,7 @@ thirds-judge P test k rs w at post a =
     (λ x p q _ b. let e : getD w (p + 2) 0 ≡ x .goal = at-nth (x .low ∷ x .high ∷ []) _ _ b in rw e (k (x .goal)))
     (λ x p q _ b. refl) rs at post (all-always rs) a
 
-each-word : (l : List ℕ) → each modeWords l ≡ l
+pub each-word : (l : List ℕ) → each modeWords l ≡ l
 unfolding each
 each-word [] = refl
 each-word (x ∷ l) = ap (λ m. x ∷ m) (each-word l)

@@ -8,12 +8,13 @@ use mathlib.Core.Logic.{inl, inr}
 use Prim.Native.Nat.{ℕ, _+_, _≤_, _<_}
 use native.Mathlib.Omega.{arith}
 use lib.ListN.{length, length-append}
+use Rattle.refusal.specs.Lists.{each}
 use Rattle.word_reader.specs.declared.Sections.{Sections}
 use Rattle.word_layout.specs.declared.Layout.{Layout}
 use Rattle.word_layout.specs.declared.Layout.the-variants.{Found, Unfound}
 use Rattle.word_layout.specs.Layout.{layoutOf}
 use Rattle.rule_words.specs.Rules.{firstBroken, rowRules, rules, broken}
-use Rattle.law_tables.specs.Table.{Table, State, Fields, each, stateWords, wordsOf}
+use Rattle.law_tables.specs.Table.{Table, State, Fields, stateWords, wordsOf}
 use Rattle.law_tables.specs.Whole.{Fit}
 use Rattle.law_tables.specs.Places.{sectionsOf, brokenOf}
 use Rattle.law_tables.specs.Rules.{Rule5, Rule6, Rule7, Rule8, Rule9, Rules, FirstOf, inOrder, FirstBroken}

@@ -5,8 +5,9 @@ use mathlib.Core.List.{List, [], _∷_, _++_, append-assoc}
 use Prim.Native.Nat.{ℕ, _≤_}
 use native.Mathlib.Omega.{arith}
 use lib.ListN.{length, getD}
+use Rattle.refusal.specs.Lists.{each}
 use Rattle.run_shape.specs.Shape.{Shape}
-use Rattle.law_tables.specs.Table.{Table, State, Range, Action, Accept, Escape, Context, Config, Continuation, All, Fields, each, counted, Start}
+use Rattle.law_tables.specs.Table.{Table, State, Range, Action, Accept, Escape, Context, Config, Continuation, All, Fields, counted, Start}
 use Rattle.law_tables.specs.Table.{StateFields, RunFields, AsciiFields, ContinuationFields, modeWords, stateWords, runWords, asciiWords, rangeWords}
 use Rattle.law_tables.specs.Table.{actionWords, acceptWords, escapeWords, contextWords, configWords, continuationWords, sectionWords, wordsOf}
 use Rattle.law_tables.proofs.Codec.{start, same, Always}

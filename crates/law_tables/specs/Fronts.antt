@@ -7,9 +7,10 @@ use lib.ListN.{length, getD, take}
 use Rattle.refusal.specs.declared.Refusal.{Refusal}
 use Rattle.refusal.specs.Said.{SHORT, TAG, FIELD, LEFT, ok}
 use Rattle.refusal.specs.Fixed.{tag}
+use Rattle.refusal.specs.Lists.{each}
 use Rattle.word_layout.specs.declared.Layout.the-variants.{Unfound}
 use Rattle.word_layout.specs.Layout.{said, unfound, layoutOf}
-use Rattle.law_tables.specs.Table.{Table, each, counted, modeWords, stateWords, runWords, contextWords, configWords, continuationWords, wordsOf, Fields}
+use Rattle.law_tables.specs.Table.{Table, counted, modeWords, stateWords, runWords, contextWords, configWords, continuationWords, wordsOf, Fields}
 
 -- some words behind w make it the words of a table whose fields are allowed
 abbrev pub Begins : List ℕ → Type 0

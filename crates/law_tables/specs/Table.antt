@@ -4,7 +4,8 @@ use mathlib.Core.Path.{_≡_}
 use mathlib.Core.List.{List, [], _∷_, _++_}
 use mathlib.Core.Logic.{_⊎_}
 use lib.ListN.{length, take, drop}
-use Rattle.refusal.specs.Fixed.{tag}
+use Rattle.refusal.specs.Fixed.{tag, NONE}
+use Rattle.refusal.specs.Lists.{each}
 use Rattle.run_ranges.specs.declared.AsciiRange.{AsciiRange}
 use Rattle.run_shape.specs.Shape.{Shape, none, any, until, ranges}
 
@@ -64,11 +65,6 @@ pub record Table : Type 0 where
   pub continuations : List Continuation
 
 -- The words
-
--- what each record gives, one behind the other
-unfoldable pub each : {A : Type 0} → (A → List ℕ) → List A → List ℕ
-each words [] = []
-each words (x ∷ xs) = words x ++ each words xs
 
 -- a count, and so many records
 abbrev pub counted : {A : Type 0} → (A → List ℕ) → List A → List ℕ
@@ -156,7 +152,7 @@ All P (x ∷ xs) = P x × All P xs
 
 -- "a value from 65536 to NONE-1 is a bad field"
 abbrev pub Start : ℕ → Type 0
-Start m = (m ≤ 65535) ⊎ (m ≡ 4294967295)
+Start m = (m ≤ 65535) ⊎ (m ≡ NONE)
 
 abbrev pub StateFields : State → Type 0
 StateFields s = s .eof ≤ 65535

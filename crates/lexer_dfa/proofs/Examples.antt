@@ -5,7 +5,7 @@ use mathlib.Core.List.{List, [], _∷_}
 use lib.ListN.{replicate}
 use Rattle.refusal.specs.Said.{ok, no}
 use Rattle.refusal.specs.Lists as lists
-use Rattle.refusal.specs.Lists.{some, before, sameList, firstEqual}
+use Rattle.refusal.specs.Lists.{some, before, sameList, firstEqual, each}
 use Rattle.run_ranges.specs.Ranges.{joined, rangesFrom, upToFour, inRanges}
 use Rattle.run_class.specs.Byte.{upFrom}
 use Rattle.run_shape.specs.Shape.{held}
@@ -32,7 +32,6 @@ use Rattle.list_segments.specs.Answer.{parseFor, segmentsIn}
 use Rattle.list_masks.specs.Masks.{wordOf, pack, maskOf, masksAt, flat, isZero, addNew, distinct}
 use Rattle.list_masks.specs.Answer as of-masks
 use Rattle.list_masks.specs.Answer.{parseMasks, parseDistinct, masksIn}
-use Rattle.law_tables.specs.Table.{each}
 use Rattle.law_lookups.specs.Looks.{goalAt}
 use Rattle.law_rows.specs.Row.{rowFrom, rowOver, joinTo, join, partFrom, values}
 use Rattle.law_rows.specs.Build.{given, rowOf}

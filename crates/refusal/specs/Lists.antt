@@ -1,7 +1,7 @@
 -- Words on lists of numbers that the definitions of all crates share.
 use Prim.Native.Nat.{ℕ, zero, suc}
 use mathlib.Core.Bool.{Bool, true, false, _&&_, _||_}
-use mathlib.Core.List.{List, [], _∷_}
+use mathlib.Core.List.{List, [], _∷_, _++_}
 use lib.Dec.{eqb}
 
 -- the first where the test holds, the second where it does not
@@ -35,3 +35,8 @@ sameList (x ∷ xs) (y ∷ ys) = eqb x y && sameList xs ys
 unfoldable pub firstEqual : List ℕ → List (List ℕ) → ℕ
 firstEqual xs [] = 0
 firstEqual xs (l ∷ ls) = pick (sameList l xs) 0 (suc (firstEqual xs ls))
+
+-- what each gives, one behind the other
+unfoldable pub each : {A : Type 0} → (A → List ℕ) → List A → List ℕ
+each f [] = []
+each f (x ∷ xs) = f x ++ each f xs

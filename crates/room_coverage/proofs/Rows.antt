@@ -7,8 +7,8 @@ use mathlib.Core.List.{List, [], _∷_, _++_}
 use lib.Dec.{ltb, leb, eqb}
 use lib.ListN.{length, getD}
 use borrow.Author.Tests.{le-leb, lt-leb, leb-true, leb-false, ltb-true, ltb-false}
-use Rattle.refusal.specs.Lists.{pick}
-use Rattle.law_tables.specs.Table.{Range, each, rangeWords}
+use Rattle.refusal.specs.Lists.{pick, each}
+use Rattle.law_tables.specs.Table.{Range, rangeWords}
 use Rattle.law_tables.specs.Rules.{Searchable}
 use Rattle.law_tables.proofs.Codec.{At, on, at-head}
 use Rattle.law_lookups.specs.Looks.{goalAt}

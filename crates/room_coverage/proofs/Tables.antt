@@ -11,7 +11,7 @@ use mir.Syntax.{w32}
 use mir.Val.{Fits}
 use borrow.Author.Tests.{lt-ltb, le-ltb, eq-eqb, ltb-true, ltb-false}
 use Rattle.refusal.specs.Said.{ok, no, STATE}
-use Rattle.refusal.specs.Lists.{pick}
+use Rattle.refusal.specs.Lists.{pick, each}
 use Rattle.word_layout.specs.declared.Layout.the-variants.{Found}
 use Rattle.room_fill.specs.Room.{roomFor}
 use Rattle.room_find.specs.declared.Found.the-variants as place
@@ -19,7 +19,7 @@ use Rattle.room_find.specs.Room.{stateAt, follow}
 use Rattle.room_decode.specs.Decode.{keptFrom, roomOf}
 use Rattle.room_judge.specs.Judge.{wordsPart, isTable}
 use Rattle.room_judge.proofs.Tables.{laid, accepted-table, own-words}
-use Rattle.law_tables.specs.Table.{Table, Range, Fields, All, wordsOf, each, rangeWords}
+use Rattle.law_tables.specs.Table.{Table, Range, Fields, All, wordsOf, rangeWords}
 use Rattle.law_tables.specs.Rules.{Rules, Good, Searchable}
 use Rattle.law_tables.specs.Whole.{Fit}
 use Rattle.law_tables.specs.Places.{sectionsOf, brokenOf}

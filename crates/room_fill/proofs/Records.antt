@@ -10,6 +10,7 @@ use borrow.Author.Tests.{eq-eqb, ne-eqb, ltb-true}
 use mathlib.Core.Bool.{true}
 use lib.Dec.{ltb}
 use lib.ListN.{length, getD, set}
+use Rattle.refusal.specs.Lists.{each}
 use Rattle.word_reader.specs.declared.Place.{Place}
 use Rattle.word_reader.specs.declared.Place.the-variants.{Next}
 use Rattle.word_reader.specs.Records.{configAt, continuationAt}
@@ -17,7 +18,7 @@ use Rattle.word_reader.proofs.Bounds.{accept-sized, config-sized, configs-behin
 use Rattle.buffer.specs.Over.{Put}
 use Rattle.buffer.proofs.Overs.{lay-none}
 use Rattle.buffer.proofs.Going.{put-one}
-use Rattle.room_fill.specs.Room.{each, copied, flag, renewed, acceptMade, configMade, continuationMade, shifted}
+use Rattle.room_fill.specs.Room.{copied, flag, renewed, acceptMade, configMade, continuationMade, shifted}
 use Rattle.room_fill.specs.declared.Flagged.{Flagged}
 use Rattle.room_fill.specs.declared.Flagged.the-variants.{Accept, Config}
 use Rattle.room_fill.specs.Flagged.{leads, flags, flaggedAt, flaggedMade}

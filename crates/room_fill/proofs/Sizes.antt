@@ -5,6 +5,7 @@ use mathlib.Core.Path.{_≡_, refl, ap}
 use mathlib.Core.List.{List, _++_}
 use lib.ListN.{length, getD, take, drop, length-append, length-drop}
 use lib.Seq.{length-take-le}
+use Rattle.refusal.specs.Lists.{each}
 use Rattle.word_reader.specs.declared.Place.{Place}
 use Rattle.word_reader.specs.declared.Place.the-variants.{Next, Refused}
 use Rattle.word_reader.specs.Parse.{andThen, many, section}
@@ -15,7 +16,7 @@ use Rattle.word_reader.specs.declared.Sections.{Sections}
 use Rattle.word_layout.specs.declared.Layout.the-variants.{Found}
 use Rattle.word_layout.specs.Layout.{layoutOf}
 use Rattle.word_layout.proofs.Found.{found, order, accepts-there}
-use Rattle.room_fill.specs.Room.{starts, startsFrom, each, copied, shifted, placed, renewed, acceptMade}
+use Rattle.room_fill.specs.Room.{starts, startsFrom, copied, shifted, placed, renewed, acceptMade}
 use Rattle.room_fill.specs.Room.{configMade, continuationMade, made, header, places, numbers}
 
 -- Records

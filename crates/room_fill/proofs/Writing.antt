@@ -11,6 +11,7 @@ use borrow.Author.Needs.{needs}
 use lib.ListN.{length, getD, set, length-set}
 use lib.Seq.{drop-cons}
 use Rattle.refusal.specs.declared.Refusal.{Refusal}
+use Rattle.refusal.specs.Lists.{each}
 use Rattle.word_reader.specs.declared.Place.{Place}
 use Rattle.word_reader.specs.declared.Place.the-variants.{Next, Refused}
 use Rattle.word_reader.specs.Records.{continuationAt}
@@ -19,7 +20,7 @@ use Rattle.word_sections.specs.Kinds.{recordAt}
 use Rattle.word_sections.proofs.Laws.{record-in}
 use Rattle.buffer.specs.Over.{Put}
 use Rattle.buffer.proofs.Going.{Going, going-start, going-done, going-room, going-turn, going-place, going-put, put-one}
-use Rattle.room_fill.specs.Room.{starts, startsFrom, each, copied, flag, renewed, continuationMade, shifted, placed}
+use Rattle.room_fill.specs.Room.{starts, startsFrom, copied, flag, renewed, continuationMade, shifted, placed}
 use Rattle.room_fill.specs.declared.Flagged.{Flagged}
 use Rattle.room_fill.specs.Flagged.{flags, flaggedAt, flaggedMade}
 

@@ -1,11 +1,12 @@
 -- The records that have flags, by their kind: as many words as it has flags stand before these. Assumes nothing.
 use Prim.Native.Nat.{ℕ}
 use mathlib.Core.List.{List, [], _∷_}
+use Rattle.refusal.specs.Lists.{each}
 use Rattle.word_reader.specs.declared.Place.{Place}
 use Rattle.word_reader.specs.Records.{acceptAt, configAt}
 use Rattle.room_fill.specs.declared.Flagged.{Flagged}
 use Rattle.room_fill.specs.declared.Flagged.the-variants.{Accept, Config}
-use Rattle.room_fill.specs.Room.{each, copied, flag, acceptMade, configMade}
+use Rattle.room_fill.specs.Room.{copied, flag, acceptMade, configMade}
 
 -- how many words stand before the flags
 abbrev pub leads : Flagged → ℕ

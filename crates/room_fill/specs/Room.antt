@@ -4,7 +4,7 @@ use Prim.Native.Nat.{ℕ, zero, suc, _+_, _*_, _-_}
 use mathlib.Core.List.{List, [], _∷_, _++_}
 use lib.ListN.{length, getD, take, drop}
 use lib.Dec.{eqb}
-use Rattle.refusal.specs.Lists.{pick}
+use Rattle.refusal.specs.Lists.{pick, each}
 use Rattle.refusal.specs.Header.{HEADER-NUMBERS}
 use Rattle.word_reader.specs.declared.Place.{Place}
 use Rattle.word_reader.specs.declared.Place.the-variants.{Next, Refused}
@@ -24,11 +24,6 @@ startsFrom (Refused r) at k = []
 unfoldable pub starts : (ℕ → Place) → ℕ → ℕ → List ℕ
 starts f zero at = []
 starts f (suc n) at = startsFrom (f at) at (starts f n)
-
--- what is written for each, one behind the other
-unfoldable pub each : (ℕ → List ℕ) → List ℕ → List ℕ
-each f [] = []
-each f (p ∷ ps) = f p ++ each f ps
 
 -- n words from a place
 unfoldable pub copied : List ℕ → ℕ → ℕ → List ℕ

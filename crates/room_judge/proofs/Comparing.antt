@@ -16,7 +16,7 @@ use lib.ListN.{length, getD, drop-of-length-le}
 use lib.Seq.{drop-cons}
 use Rattle.refusal.specs.declared.Refusal.{Refusal}
 use Rattle.refusal.specs.Said.{NOT-TABLE}
-use Rattle.refusal.specs.Lists.{pick, every}
+use Rattle.refusal.specs.Lists.{pick, every, each}
 use Rattle.word_reader.specs.declared.Sections.{Sections}
 use Rattle.word_reader.specs.declared.Place.{Place}
 use Rattle.word_reader.specs.declared.Place.the-variants.{Next, Refused}
@@ -28,7 +28,7 @@ use Rattle.rule_words.specs.Flags.{acceptPlain, continuationPlain}
 use Rattle.rule_words.proofs.Laws.{in-section}
 use Rattle.rule_walk.specs.declared.Question.the-variants.{AcceptIsPlain, ContinuationIsPlain}
 use Rattle.rule_walk.specs.Questions.{allPass}
-use Rattle.room_fill.specs.Room.{startsFrom, starts, each, shifted, placed, places}
+use Rattle.room_fill.specs.Room.{startsFrom, starts, shifted, placed, places}
 use Rattle.room_fill.proofs.Writing.{record-limit}
 use Rattle.room_judge.specs.Standing.{standsAt, fourStand, eightStand, standing, placeAfter, emptyFrom, flagsPlain}
 

@@ -9,7 +9,7 @@ use lib.ListN.{length, getD, take, drop, length-drop}
 use lib.Seq.{length-take-le, take-length}
 use borrow.Author.Tests.{le-leb, leb-true, eqb-true, eq-eqb}
 use Rattle.refusal.proofs.Lists.{and-split}
-use Rattle.refusal.specs.Lists.{pick}
+use Rattle.refusal.specs.Lists.{pick, each}
 use Rattle.word_reader.specs.declared.Place.{Place}
 use Rattle.word_reader.specs.declared.Place.the-variants.{Next, Refused}
 use Rattle.word_reader.specs.Parse.{andThen, many, section}
@@ -22,7 +22,7 @@ use Rattle.word_layout.proofs.Found.{found, order}
 use Rattle.rule_words.specs.Rules as rules
 use Rattle.rule_words.specs.Rules.{everyFrom, walk, everyIn}
 use Rattle.rule_words.proofs.Laws.{rest}
-use Rattle.room_fill.specs.Room.{startsFrom, starts, each, copied, flag, renewed, acceptMade, configMade, continuationMade, made}
+use Rattle.room_fill.specs.Room.{startsFrom, starts, copied, flag, renewed, acceptMade, configMade, continuationMade, made}
 use Rattle.room_fill.proofs.Sizes.{made-length}
 use Rattle.rule_words.specs.Flags.{plain, acceptPlain, configPlain, continuationPlain}
 use Rattle.room_judge.specs.Standing.{standing, flagsPlain}

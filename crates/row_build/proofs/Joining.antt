@@ -9,8 +9,8 @@ use native.Mathlib.Omega.{arith}
 use borrow.Author.Needs.{needs}
 use lib.Dec.{eqb, ltb}
 use lib.ListN.{length, getD, set, length-set}
-use Rattle.refusal.specs.Lists.{pick}
-use Rattle.law_tables.specs.Table.{Range, each}
+use Rattle.refusal.specs.Lists.{pick, each}
+use Rattle.law_tables.specs.Table.{Range}
 use Rattle.buffer.specs.Over.{Put}
 use Rattle.buffer.proofs.Overs.{lay-none}
 use Rattle.buffer.proofs.Going.{Going, going-start, going-done, going-turn, put-one, put-two, put-size}

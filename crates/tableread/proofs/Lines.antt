@@ -11,9 +11,9 @@ use lib.ListN.{length, getD, take, drop, set, length-append, length-set, drop-of
 use lib.Seq.{drop-cons}
 use Rattle.io.specs.Digits.{digits, Fewest}
 use Rattle.refusal.specs.declared.Refusal.{Refusal}
+use Rattle.refusal.specs.Lists.{each}
 use Rattle.buffer.specs.Over.{Put}
 use Rattle.buffer.proofs.Going.{Going, going-start, going-done, going-room, going-turn, going-place, going-put, put-one, put-size-1}
-use Rattle.room_fill.specs.Room.{each}
 use Rattle.room_decode.specs.declared.Decoded.{Decoded}
 use Rattle.room_decode.specs.declared.Decoded.the-variants.{Table, Refused}
 use Rattle.room_decode.specs.Decode.{said}

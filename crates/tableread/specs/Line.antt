@@ -2,7 +2,7 @@
 use Prim.Native.Nat.{ℕ}
 use mathlib.Core.List.{List, [], _∷_, _++_}
 use Rattle.refusal.specs.Said.{Said, ok, no}
-use Rattle.room_fill.specs.Room.{each}
+use Rattle.refusal.specs.Lists.{each}
 use Rattle.program_io.specs.Decimal.{decimal}
 
 -- a space and a number, which has 64 bits and so at most 20 digits

@@ -3,9 +3,9 @@
 ghost use mathlib.Core.Path.{_≡_};
 ghost use Prim.Native.Nat.{_+_, _≤_};
 ghost use lib.ListN.{length, take};
+ghost use Rattle.refusal.specs.Lists.{each};
 ghost use Rattle.io.specs.Counts.{Counts};
 ghost use Rattle.buffer.specs.Over.{Put};
-ghost use Rattle.room_fill.specs.Room.{each};
 ghost use Rattle.room_decode.specs.Decode.{said};
 ghost use Rattle.tableread.specs.Line.{spaced, lineWith, lineOf};
 use room_decode::Decoded;

@@ -1,7 +1,8 @@
 -- By the law of every loop that writes: the records that are left, written from here, give what all of them give.
+use Rattle.refusal.specs.Lists.{each}
 use Rattle.word_sections.specs.Kinds.{recordAt}
 use Rattle.buffer.proofs.Going.{Going}
-use Rattle.room_fill.specs.Room.{starts, each, shifted, placed}
+use Rattle.room_fill.specs.Room.{starts, shifted, placed}
 use Rattle.room_fill.proofs.Writing.{placing}
 use Rattle.room_fill.proofs.places.put_record_places.Statement.{statement}
 use Rattle.room_fill.proofs.places.put_record_places.Tie as tie

@@ -1,8 +1,9 @@
 -- By the law of every loop that writes: the records that are left, written from here, give what all of them give; before them stands the count.
+use Rattle.refusal.specs.Lists.{each}
 use Rattle.word_reader.specs.Records.{continuationAt}
 use borrow.Author.Needs.{needs}
 use Rattle.buffer.proofs.Going.{Going}
-use Rattle.room_fill.specs.Room.{starts, each, continuationMade}
+use Rattle.room_fill.specs.Room.{starts, continuationMade}
 use Rattle.room_fill.proofs.Writing.{was, continuation-room, recording}
 use Rattle.room_fill.proofs.renew.renew_continuations.Statement.{statement}
 use Rattle.room_fill.proofs.renew.renew_continuations.Tie as tie

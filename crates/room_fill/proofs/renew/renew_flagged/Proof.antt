@@ -1,7 +1,8 @@
 -- By the law of every loop that writes: the records that are left, written from here, give what all of them give; before them stands the count.
 use borrow.Author.Needs.{needs}
+use Rattle.refusal.specs.Lists.{each}
 use Rattle.buffer.proofs.Going.{Going}
-use Rattle.room_fill.specs.Room.{starts, each}
+use Rattle.room_fill.specs.Room.{starts}
 use Rattle.room_fill.specs.Flagged.{flaggedAt, flaggedMade}
 use Rattle.room_fill.proofs.Writing.{was, flagged-room, recording}
 use Rattle.room_fill.proofs.renew.renew_flagged.Statement.{statement}

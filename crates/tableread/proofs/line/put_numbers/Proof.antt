@@ -1,8 +1,8 @@
 -- By the law of every loop that writes: the numbers that are left, written from here, give what all of them give.
 use Prim.Native.Nat.{_-_}
 use lib.ListN.{length, drop}
+use Rattle.refusal.specs.Lists.{each}
 use Rattle.buffer.proofs.Going.{Going}
-use Rattle.room_fill.specs.Room.{each}
 use Rattle.tableread.specs.Line.{spaced}
 use Rattle.tableread.proofs.Lines.{numbers}
 use Rattle.tableread.proofs.line.put_numbers.Statement.{statement}
