@@ -11,7 +11,7 @@ use native.Mathlib.Omega.{arith}
 use lib.Dec.{ltb, leb, eqb}
 use lib.ListN.{length, getD}
 use borrow.Author.Tests.{lt-ltb, le-leb, ltb-true, leb-true, eqb-true, eq-eqb}
-use Rattle.refusal.specs.Fixed.{NONE}
+use Rattle.refusal.specs.Fixed.{NONE, ESCAPE-STATE, DEAD-STATE}
 use Rattle.word_reader.specs.declared.Place.{Place}
 use Rattle.word_reader.specs.declared.Place.the-variants.{Next}
 use Rattle.rule_words.specs.Rules as words
@@ -78,7 +78,7 @@ eq a b = record { says = eqb-true a b; told = eq-eqb a b }
 
 is-good : (t : Table) (x : ℕ) → Judges (good (length (t .states)) x) (Good t x)
 unfolding good
-is-good t x = either-holds (lt x (length (t .states))) (either-holds (eq x 65534) (eq x 65535))
+is-good t x = either-holds (lt x (length (t .states))) (either-holds (eq x ESCAPE-STATE) (eq x DEAD-STATE))
 
 is-none-or : (n x : ℕ) → Judges (noneOr n x) (NoneOr n x)
 unfolding noneOr

@@ -4,7 +4,7 @@ use mathlib.Core.Path.{_≡_}
 use mathlib.Core.List.{List, [], _∷_}
 use mathlib.Core.Logic.{_⊎_}
 use lib.ListN.{length, getD}
-use Rattle.refusal.specs.Fixed.{NONE}
+use Rattle.refusal.specs.Fixed.{NONE, ESCAPE-STATE, DEAD-STATE}
 use Rattle.run_shape.specs.Classify.{classification}
 use Rattle.law_tables.specs.Table.{Table, State, Range, Context, All}
 
@@ -19,7 +19,7 @@ NoneOr count x = (x ≡ NONE) ⊎ (x < count)
 
 -- "Good: a state, 65534 or 65535"
 abbrev pub Good : Table → ℕ → Type 0
-Good t x = (x < length (t .states)) ⊎ (x ≡ 65534) ⊎ (x ≡ 65535)
+Good t x = (x < length (t .states)) ⊎ (x ≡ ESCAPE-STATE) ⊎ (x ≡ DEAD-STATE)
 
 -- "Searchable: low at most high, each high below the next low"
 unfoldable pub Searchable : List Range → Type 0

@@ -5,7 +5,7 @@ use mathlib.Core.Path.{_≡_, refl}
 use mathlib.Core.List.{List, [], _∷_, _++_}
 use lib.ListN.{replicate, take, drop}
 use Rattle.refusal.specs.Said.{ok, no, ROOM, STATE, NOT-TABLE, ORDER}
-use Rattle.refusal.specs.Fixed.{NONE, tag}
+use Rattle.refusal.specs.Fixed.{NONE, tag, ESCAPE-STATE, DEAD-STATE}
 use Rattle.refusal.specs.Lists.{some, every, before}
 use Rattle.run_shape.specs.Shape.{held}
 use Rattle.run_shape.specs.Words.{orField, shortRun, readAt}
@@ -28,9 +28,9 @@ use Rattle.look_runs.specs.StateRun.{runIn, runOf, asciiRun, scannedBy}
 abbrev room : List ℕ
 room =
     (120 ∷ 10 ∷ 14 ∷ 23 ∷ 26 ∷ 91 ∷ 99 ∷ 106 ∷ 114 ∷ [])
-    ++ (tag ∷ 3 ∷ 0 ∷ NONE ∷ 1 ∷ 2 ∷ 0 ∷ 0 ∷ 65535 ∷ NONE ∷ 0 ∷ 0 ∷ 1 ∷ 0 ∷ 2 ∷ 1 ∷ 8706 ∷ 1 ∷ [])
+    ++ (tag ∷ 3 ∷ 0 ∷ NONE ∷ 1 ∷ 2 ∷ 0 ∷ 0 ∷ DEAD-STATE ∷ NONE ∷ 0 ∷ 0 ∷ 1 ∷ 0 ∷ 2 ∷ 1 ∷ 8706 ∷ 1 ∷ [])
     ++ replicate 64 0
-    ++ (1 ∷ 2 ∷ 200 ∷ 300 ∷ 1 ∷ 400 ∷ 500 ∷ 65534 ∷ 1 ∷ 7 ∷ 1 ∷ 1 ∷ 11 ∷ 12 ∷ 13 ∷ [])
+    ++ (1 ∷ 2 ∷ 200 ∷ 300 ∷ 1 ∷ 400 ∷ 500 ∷ ESCAPE-STATE ∷ 1 ∷ 7 ∷ 1 ∷ 1 ∷ 11 ∷ 12 ∷ 13 ∷ [])
     ++ (2 ∷ NONE ∷ 0 ∷ 0 ∷ 1 ∷ 400 ∷ 500 ∷ 0 ∷ 1 ∷ 1 ∷ 0 ∷ 0 ∷ 5 ∷ 1 ∷ 1 ∷ NONE ∷ 0 ∷ 1 ∷ 1 ∷ 1 ∷ 21 ∷ 22 ∷ 23 ∷ [])
     ++ (24 ∷ 25 ∷ 92 ∷ 100 ∷ 107 ∷ 109 ∷ 115 ∷ 0 ∷ 0 ∷ [])
 
@@ -61,12 +61,12 @@ reached : (asciiTarget room 0 65 ≡ ok (0 ∷ [])) × (asciiTarget room 0 128 �
 unfolding follow stateAt recordIn rowTarget asciiRowAt
 reached = (refl, refl, refl, refl)
 
-searched-for : (charTarget room 0 65 ≡ ok (0 ∷ [])) × (charTarget room 0 199 ≡ ok (65535 ∷ [])) × (charTarget room 0 200 ≡ ok (1 ∷ []))
-    × (charTarget room 0 500 ≡ ok (65534 ∷ [])) × (charTarget room 0 NONE ≡ ok (65535 ∷ []))
+searched-for : (charTarget room 0 65 ≡ ok (0 ∷ [])) × (charTarget room 0 199 ≡ ok (DEAD-STATE ∷ [])) × (charTarget room 0 200 ≡ ok (1 ∷ []))
+    × (charTarget room 0 500 ≡ ok (ESCAPE-STATE ∷ [])) × (charTarget room 0 NONE ≡ ok (DEAD-STATE ∷ []))
 unfolding follow stateAt recordIn rowTarget asciiRowAt listedAt pastLists listedIn given searched found
 searched-for = (refl, refl, refl, refl, refl)
 
-ended : (eofTarget room 0 ≡ ok (65535 ∷ [])) × (eofTarget room 1 ≡ ok (1 ∷ []))
+ended : (eofTarget room 0 ≡ ok (DEAD-STATE ∷ [])) × (eofTarget room 1 ≡ ok (1 ∷ []))
 unfolding follow stateAt recordIn
 ended = (refl, refl)
 

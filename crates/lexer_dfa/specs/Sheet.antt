@@ -4,7 +4,7 @@ use mathlib.Core.Path.{_≡_}
 use mathlib.Core.List.{List, [], _∷_, _++_, map}
 use lib.ListN.{take, replicate}
 use Rattle.refusal.specs.Said.{Said, ok, no}
-use Rattle.refusal.specs.Fixed.{tag, NONE}
+use Rattle.refusal.specs.Fixed.{tag, NONE, DEAD-STATE}
 use Rattle.refusal.specs.Lists.{pick}
 use Rattle.run_ranges.specs.declared.AsciiRange.{AsciiRange}
 use Rattle.run_ranges.specs.Ranges.{range, inRanges}
@@ -111,7 +111,7 @@ Right (x ∷ xs) = Holds x × Right xs
 
 -- a row of 128 targets: the state on the symbols of some ranges, and dead on all others
 unfoldable pub rowOn : List AsciiRange → ℕ → List ℕ
-rowOn looping state = map (λ symbol. pick (inRanges looping symbol) state 65535) (upFrom 0 128)
+rowOn looping state = map (λ symbol. pick (inRanges looping symbol) state DEAD-STATE) (upFrom 0 128)
 
 -- the sheet's rows, of state 7
 abbrev pub digits : List ℕ
@@ -132,7 +132,7 @@ eightZeros = tag ∷ zeros 8
 
 -- `tableread`'s table
 abbrev pub smallTable : List ℕ
-smallTable = tag ∷ 1 ∷ 0 ∷ 1 ∷ 0 ∷ 0 ∷ 65535 ∷ NONE ∷ 1 ∷ 1 ∷ 1 ∷ (zeros 64 ++ (1 ∷ 0 ∷ 0 ∷ 1 ∷ NONE ∷ 0 ∷ 0 ∷ []))
+smallTable = tag ∷ 1 ∷ 0 ∷ 1 ∷ 0 ∷ 0 ∷ DEAD-STATE ∷ NONE ∷ 1 ∷ 1 ∷ 1 ∷ (zeros 64 ++ (1 ∷ 0 ∷ 0 ∷ 1 ∷ NONE ∷ 0 ∷ 0 ∷ []))
 
 -- the sheet's lists of transitions, as bytes: sets {48..57} and {48, 97..122}; not {-5..3}; the empty not-set; ranges 100..200 and 201..300
 abbrev pub twoSets : List ℕ
@@ -174,7 +174,7 @@ sheet =
     (segments notSet says ok (4 ∷ 1114111 ∷ [])) ∷
     (segments emptyNotSet says ok (0 ∷ 1114111 ∷ [])) ∷
     -- "100..200 and 201..300, both to 3: ascii 100..127, wide 128..300."
-    (rows twoRanges (3 ∷ 3 ∷ []) (NONE ∷ NONE ∷ []) says ok (replicate 100 65535 ++ (replicate 28 3 ++ (128 ∷ 300 ∷ 3 ∷ [])))) ∷
+    (rows twoRanges (3 ∷ 3 ∷ []) (NONE ∷ NONE ∷ []) says ok (replicate 100 DEAD-STATE ++ (replicate 28 3 ++ (128 ∷ 300 ∷ 3 ∷ [])))) ∷
     -- "Given the tag; 1, 0; 1, 0, 0, 65535, NONE; 1, 1; 1 and 64 zeros; 1, 0; 0; 1, NONE, 0; 0, it prints the line `ok 1 1 82`."
     (decode smallTable 16384 says ok (1 ∷ 1 ∷ 82 ∷ [])) ∷
     []

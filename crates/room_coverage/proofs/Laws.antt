@@ -15,6 +15,7 @@ use borrow.Author.Tests.{le-leb, lt-leb, lt-ltb, le-ltb, eq-eqb, ne-eqb, ltb-tru
 use Rattle.refusal.specs.Said.{Said, ok, no, NOT-TABLE}
 use Rattle.refusal.specs.Lists.{pick}
 use Rattle.refusal.specs.declared.Refusal.{Refusal}
+use Rattle.refusal.specs.Fixed.{DEAD-STATE}
 use Rattle.word_reader.specs.declared.Sections.{Sections}
 use Rattle.word_layout.specs.declared.Layout.{Layout}
 use Rattle.word_layout.specs.declared.Layout.the-variants as layout
@@ -33,8 +34,8 @@ use Rattle.room_coverage.proofs.Counts.{count-most, count-start, count-
 use Rattle.room_coverage.proofs.Tables.{Numbers, state-covered}
 
 -- a target that is not the dead state is counted
-pub counts-live : (a : Answer) {t : ℕ} → a ≡ Number t → (t ≡ 65535 → ⊥) → _≡_ {A = ℕ} 1 (pick (notDead (said a)) 1 0)
-counts-live a {t} e z = rw (e, ne-eqb t 65535 z)
+pub counts-live : (a : Answer) {t : ℕ} → a ≡ Number t → (t ≡ DEAD-STATE → ⊥) → _≡_ {A = ℕ} 1 (pick (notDead (said a)) 1 0)
+counts-live a {t} e z = rw (e, ne-eqb t DEAD-STATE z)
 
 pub ruleset living = (needs, eq-eqb, counts-live)
 
@@ -63,7 +64,7 @@ below-most x = go (ltb x 128) (ltb x 1114112) refl
 
 span-most : (low high target : ℕ) → span low high target ≤ 1113984
 unfolding span
-span-most low high target = go (eqb target 65535)
+span-most low high target = go (eqb target DEAD-STATE)
   where
     go : (b : Bool) → pick b 0 (below (high + 1) - below low) ≤ 1113984
     go true = omega arith
@@ -80,13 +81,13 @@ pub ruleset ends = (needs, below-all)
 
 -- a dead range has no points; of any other they are counted
 module _ (low high target : ℕ) where
-  pub dead-range : target ≡ 65535 → 0 ≡ span low high target
+  pub dead-range : target ≡ DEAD-STATE → 0 ≡ span low high target
   unfolding span
-  dead-range e = rw (eq-eqb target 65535 e)
+  dead-range e = rw (eq-eqb target DEAD-STATE e)
 
-  pub live-range : {a b r : ℕ} → (target ≡ 65535 → ⊥) → a ≡ below (high + 1) → b ≡ below low → r ≡ a - b → r ≡ span low high target
+  pub live-range : {a b r : ℕ} → (target ≡ DEAD-STATE → ⊥) → a ≡ below (high + 1) → b ≡ below low → r ≡ a - b → r ≡ span low high target
   unfolding span
-  live-range z p q e = e ∙ (rw (p, q, ne-eqb target 65535 z))
+  live-range z p q e = e ∙ (rw (p, q, ne-eqb target DEAD-STATE z))
 
 pub ruleset ranging = (needs, dead-range, live-range)
 

@@ -8,6 +8,7 @@ use lib.Dec.{ltb, leb, eqb}
 use lib.ListN.{length, getD}
 use borrow.Author.Tests.{le-leb, lt-leb, leb-true, leb-false, ltb-true, ltb-false}
 use Rattle.refusal.specs.Lists.{pick, each}
+use Rattle.refusal.specs.Fixed.{DEAD-STATE}
 use Rattle.law_tables.specs.Table.{Range, rangeWords}
 use Rattle.law_tables.specs.Rules.{Searchable}
 use Rattle.law_tables.proofs.Codec.{At, on, at-head}
@@ -37,7 +38,7 @@ holds r x = leb (r .low) x && leb x (r .high)
 
 range-counted : (r : Range) → r .low ≤ r .high → count (λ i. lives (r .goal) && holds r (128 + i)) 1113984 ≡ span (r .low) (r .high) (r .goal)
 unfolding span
-range-counted r h = go (eqb (r .goal) 65535)
+range-counted r h = go (eqb (r .goal) DEAD-STATE)
   where
     go : (b : Bool) → count (λ i. not b && holds r (128 + i)) 1113984 ≡ pick b 0 (below (r .high + 1) - below (r .low))
     go true = count-none (λ i. false) 1113984 (λ i. refl)
@@ -46,12 +47,12 @@ range-counted r h = go (eqb (r .goal) 65535)
 -- The ranges of a row
 
 -- before its first range a row is dead
-dead-before : (r : Range) (rs : List Range) (x : ℕ) → x < r .low → r .low ≤ r .high → goalAt 65535 (r ∷ rs) x ≡ 65535
+dead-before : (r : Range) (rs : List Range) (x : ℕ) → x < r .low → r .low ≤ r .high → goalAt DEAD-STATE (r ∷ rs) x ≡ DEAD-STATE
 unfolding goalAt
 dead-before r rs x l h = let m : x ≤ r .high = omega arith in rw (le-leb x (r .high) m, lt-leb (r .low) x l)
 
 -- up to the high of its first range, the rest of a row is dead
-rest-dead : (r : Range) (rs : List Range) → Searchable (r ∷ rs) → (x : ℕ) → x ≤ r .high → goalAt 65535 rs x ≡ 65535
+rest-dead : (r : Range) (rs : List Range) → Searchable (r ∷ rs) → (x : ℕ) → x ≤ r .high → goalAt DEAD-STATE rs x ≡ DEAD-STATE
 unfolding Searchable goalAt
 rest-dead r [] s x h = refl
 rest-dead r (next ∷ rs) s x h = let l = s .1 in dead-before next rs x (omega arith) (first-ordered next rs (s .2))
@@ -61,12 +62,13 @@ none-more n = omega arith
 
 -- a point is in the first range, or in the rest, and never in both
 parted : (r : Range) (rs : List Range) → Searchable (r ∷ rs) → (x : ℕ)
-    → pick (lives (goalAt 65535 (r ∷ rs) x)) 1 0 ≡ pick (lives (r .goal) && holds r x) 1 0 + pick (lives (goalAt 65535 rs x)) 1 0
+    → pick (lives (goalAt DEAD-STATE (r ∷ rs) x)) 1 0 ≡ pick (lives (r .goal) && holds r x) 1 0 + pick (lives (goalAt DEAD-STATE rs x)) 1 0
 unfolding goalAt
-parted r rs s x = go (leb (r .low) x) (leb x (r .high)) refl (eqb (r .goal) 65535) refl
+parted r rs s x = go (leb (r .low) x) (leb x (r .high)) refl (eqb (r .goal) DEAD-STATE) refl
   where
-    go : (a b : Bool) → leb x (r .high) ≡ b → (c : Bool) → eqb (r .goal) 65535 ≡ c
-        → pick (lives (pick b (pick a (r .goal) 65535) (goalAt 65535 rs x))) 1 0 ≡ pick (not c && (a && b)) 1 0 + pick (lives (goalAt 65535 rs x)) 1 0
+    go : (a b : Bool) → leb x (r .high) ≡ b → (c : Bool) → eqb (r .goal) DEAD-STATE ≡ c
+        → pick (lives (pick b (pick a (r .goal) DEAD-STATE) (goalAt DEAD-STATE rs x))) 1 0
+        ≡ pick (not c && (a && b)) 1 0 + pick (lives (goalAt DEAD-STATE rs x)) 1 0
     go true true p true q = rw (rest-dead r rs s x (leb-true x (r .high) p), q)
     go true true p false q = rw (rest-dead r rs s x (leb-true x (r .high) p), q)
     go false true p true q = rw (rest-dead r rs s x (leb-true x (r .high) p))
@@ -77,7 +79,7 @@ parted r rs s x = go (leb (r .low) x) (leb x (r .high)) refl (eqb (r .goal) 6553
     go false false p false q = none-more _
 
 pub row-counted : (w : List ℕ) (rs : List Range) (at : ℕ) (post : List ℕ) → Searchable rs → At w at (each rangeWords rs ++ post)
-    → spans w (length rs) at ≡ count (λ i. lives (goalAt 65535 rs (128 + i))) 1113984
+    → spans w (length rs) at ≡ count (λ i. lives (goalAt DEAD-STATE rs (128 + i))) 1113984
 unfolding spans each goalAt
 row-counted w [] at post s a = sym (count-none (λ i. false) 1113984 (λ i. refl))
 row-counted w (r ∷ rs) at post s a =
@@ -85,6 +87,6 @@ row-counted w (r ∷ rs) at post s a =
     let goal : getD w (at + 2) 0 ≡ r .goal = at-head (on (r .low ∷ r .high ∷ []) _ a) in
     let first = range-counted r (first-ordered r rs s) in
     let rest = row-counted w rs (at + 3) post (behind-first r rs s) (on (rangeWords r) (each rangeWords rs ++ post) a) in
-    let all = count-both (λ i. lives (goalAt 65535 (r ∷ rs) (128 + i))) (λ i. lives (r .goal) && holds r (128 + i)) (λ i. lives (goalAt 65535 rs (128 + i)))
-    1113984 (λ i. parted r rs s (128 + i)) in
+    let all = count-both (λ i. lives (goalAt DEAD-STATE (r ∷ rs) (128 + i))) (λ i. lives (r .goal) && holds r (128 + i))
+    (λ i. lives (goalAt DEAD-STATE rs (128 + i))) 1113984 (λ i. parted r rs s (128 + i)) in
     rw (at-head a, high, goal, ← first, rest) (sym all)

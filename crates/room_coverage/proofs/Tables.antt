@@ -12,6 +12,7 @@ use mir.Val.{Fits}
 use borrow.Author.Tests.{lt-ltb, le-ltb, eq-eqb, ltb-true, ltb-false}
 use Rattle.refusal.specs.Said.{ok, no, STATE}
 use Rattle.refusal.specs.Lists.{pick, each}
+use Rattle.refusal.specs.Fixed.{DEAD-STATE}
 use Rattle.word_layout.specs.declared.Layout.the-variants.{Found}
 use Rattle.room_fill.specs.Room.{roomFor}
 use Rattle.room_find.specs.declared.Found.the-variants as place
@@ -73,7 +74,7 @@ module _ (t : Table) (h : Fields t) (r : Rules t) (d : List ℕ) (k : Held t d) 
   ranges = getD (t .wide) (stateOf t s .wide) []
 
   -- by its ranges
-  by-ranges : wideSpans d (stateOf t s .wide) ≡ count (λ i. lives (goalAt 65535 ranges (128 + i))) 1113984
+  by-ranges : wideSpans d (stateOf t s .wide) ≡ count (λ i. lives (goalAt DEAD-STATE ranges (128 + i))) 1113984
   unfolding wideSpans follow
   by-ranges =
       let m = has-rows t h r d k s l .1 in
@@ -87,7 +88,7 @@ module _ (t : Table) (h : Fields t) (r : Rules t) (d : List ℕ) (k : Held t d) 
       (row-counted d ranges (p + 1) (z .post) searchable (on (length ranges ∷ []) (each rangeWords ranges ++ z .post) (z .stands)))
 
   -- by its points
-  by-points : (i : ℕ) → goesOn d s (128 + i) ≡ lives (goalAt 65535 ranges (128 + i))
+  by-points : (i : ℕ) → goesOn d s (128 + i) ≡ lives (goalAt DEAD-STATE ranges (128 + i))
   by-points i =
       let b : 128 ≤ 128 + i = omega arith in
       ap notDead (char-is t h r d k s (128 + i)) ∙ (rw (lt-ltb s (length (t .states)) l, le-ltb (128 + i) 128 b))
@@ -95,7 +96,7 @@ module _ (t : Table) (h : Fields t) (r : Rules t) (d : List ℕ) (k : Held t d) 
   points-are : count (goesOn d s) 128 + wideSpans d (stateOf t s .wide) ≡ covered d s
   unfolding covered
   points-are =
-      let e = by-ranges ∙ sym (count-same (λ i. goesOn d s (128 + i)) (λ i. lives (goalAt 65535 ranges (128 + i))) 1113984 by-points) in
+      let e = by-ranges ∙ sym (count-same (λ i. goesOn d s (128 + i)) (λ i. lives (goalAt DEAD-STATE ranges (128 + i))) 1113984 by-points) in
       ap (λ n. count (goesOn d s) 128 + n) e ∙ sym (count-from (goesOn d s) 128 1113984)
 
 -- coverage of a room that is a table is that of the table it holds

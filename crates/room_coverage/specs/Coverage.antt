@@ -7,16 +7,17 @@ use lib.Dec.{eqb}
 use lib.ListN.{getD}
 use Rattle.refusal.specs.Said.{Said, ok, no, NOT-TABLE}
 use Rattle.refusal.specs.Lists.{pick}
+use Rattle.refusal.specs.Fixed.{DEAD-STATE}
 use Rattle.room_find.specs.Room.{ofState}
 use Rattle.room_judge.specs.Judge.{isTable}
 use Rattle.look_targets.specs.Targets.{charTarget}
 
--- a target other than 65535, the dead state; the escape state, 65534, is not dead
+-- a target other than the dead state; the escape state is not dead
 abbrev pub lives : ℕ → Bool
-lives target = not (eqb target 65535)
+lives target = not (eqb target DEAD-STATE)
 
 abbrev pub notDead : Said → Bool
-notDead (ok l) = lives (getD l 0 65535)
+notDead (ok l) = lives (getD l 0 DEAD-STATE)
 notDead (no n p) = false
 
 -- the state goes on at a code point

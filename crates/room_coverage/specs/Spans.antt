@@ -5,6 +5,7 @@ use mathlib.Core.List.{List}
 use lib.Dec.{ltb, eqb}
 use lib.ListN.{length, getD}
 use Rattle.refusal.specs.Lists.{pick}
+use Rattle.refusal.specs.Fixed.{DEAD-STATE}
 use Rattle.room_find.specs.Room.{follow}
 use Rattle.look_targets.specs.Targets.{wideRowAt}
 
@@ -14,7 +15,7 @@ below x = pick (ltb x 128) 0 (pick (ltb x 1114112) (x - 128) 1113984)
 
 -- how many of them a range holds, where its target is not dead
 unfoldable pub span : ℕ → ℕ → ℕ → ℕ
-span low high target = pick (eqb target 65535) 0 (below (high + 1) - below low)
+span low high target = pick (eqb target DEAD-STATE) 0 (below (high + 1) - below low)
 
 -- and n ranges from `at`, each low, high and target
 unfoldable pub spans : List ℕ → ℕ → ℕ → ℕ

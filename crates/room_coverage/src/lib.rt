@@ -12,6 +12,7 @@ ghost use Rattle.room_find.specs.Room.{ofState};
 ghost use Rattle.room_judge.specs.Judge.{isTable};
 ghost use Rattle.room_coverage.specs.Coverage.{notDead, goesOn, count, covered, coverageOf};
 ghost use Rattle.room_coverage.specs.Spans.{below, span, spans, rowSpans, wideSpans};
+use refusal::DEAD_STATE;
 use room_find::Answer;
 use room_find::Found;
 use word_layout::Layout;
@@ -25,7 +26,7 @@ fn alive(target: Answer) -> u32
 {
     match target {
         Answer::Number(t) => {
-            if t == 65535 {
+            if t == DEAD_STATE as u32 {
                 return 0;
             }
             1
@@ -92,7 +93,7 @@ fn without(a: u64, b: u64) -> u64
 fn range_points(low: u32, high: u32, target: u32) -> u64
     ensures { λ r. ⌜ r ≡ span low high target ⌝ }
 {
-    if target == 65535 {
+    if target == DEAD_STATE as u32 {
         return 0;
     }
     without(points_to(high), points_below(low))

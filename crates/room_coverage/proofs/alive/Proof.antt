@@ -13,4 +13,5 @@ alive-spec =
     (λ c. search living)
     (λ c. search living)
     (λ c. search living)
+    (λ c. search living)
     (λ c. search living))

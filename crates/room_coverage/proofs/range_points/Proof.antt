@@ -8,6 +8,7 @@ range-points-spec =
     tie.close
     (tie.spec
     (λ c. search ranging)
+    (λ c. search ranging)
     (λ c κs. search ranging)
     (λ c κs. search ranging)
     (λ c κs. search ranging)
