@@ -13,6 +13,7 @@ use borrow.Author.Tests.{lt-ltb, le-ltb, eq-eqb, ltb-true, ltb-false}
 use Rattle.refusal.specs.Said.{ok, no, STATE}
 use Rattle.refusal.specs.Lists.{pick, each}
 use Rattle.refusal.specs.Fixed.{DEAD-STATE}
+use Rattle.refusal.specs.Header.{STATES-START, HEADER-NUMBERS, wordCount}
 use Rattle.word_layout.specs.declared.Layout.the-variants.{Found}
 use Rattle.room_fill.specs.Room.{roomFor}
 use Rattle.room_find.specs.declared.Found.the-variants as place
@@ -48,9 +49,9 @@ numbers-drop (suc n) (x ∷ d) f = numbers-drop n d (λ i. f (suc i))
 part-fits : (d : List ℕ) → Numbers d → Fit (wordsPart d)
 unfolding wordsPart
 part-fits d f i h =
-    let n = getD d 0 0 in
-    let l : i < n = omega (arith, length-take n (drop 9 d)) in
-    subst (λ x. x < 4294967296) (sym (getD-take n (drop 9 d) i 0 l)) (omega (arith, numbers-drop 9 d f i .fits))
+    let n = wordCount d in
+    let l : i < n = omega (arith, length-take n (drop HEADER-NUMBERS d)) in
+    subst (λ x. x < 4294967296) (sym (getD-take n (drop HEADER-NUMBERS d) i 0 l)) (omega (arith, numbers-drop HEADER-NUMBERS d f i .fits))
 
 -- what decoding leaves for a table
 table-kept : (t : Table) → Fields t → Rules t → length (wordsOf t) ≤ 8192 → (n : ℕ) → 16384 ≤ n
@@ -119,7 +120,7 @@ state-covered d f h s p e =
     go t h r k true u =
         let l = ltb-true _ _ u in
         let o = sym e ∙ state-at t h r d k s l in
-        let q : p ≡ s * 4 + getD d 2 0 + 1 = cc in
+        let q : p ≡ s * 4 + getD d STATES-START 0 + 1 = cc in
         let n : getD d (p + 1) 0 ≡ stateOf t s .wide = ap (λ m. getD d (m + 1) 0) q ∙ number-wide t h r d k s (state-place t h r d k s l) in
         ap (λ m. count (goesOn d s) 128 + wideSpans d m) n ∙ points-are t h r d k s l
     go t h r k false u =

@@ -18,7 +18,7 @@ use Rattle.word_reader.proofs.Bounds.{accept-sized, config-sized, configs-behin
 use Rattle.buffer.specs.Over.{Put}
 use Rattle.buffer.proofs.Overs.{lay-none}
 use Rattle.buffer.proofs.Going.{put-one}
-use Rattle.room_fill.specs.Room.{copied, flag, renewed, acceptMade, configMade, continuationMade, shifted}
+use Rattle.room_fill.specs.Room.{copied, flag, renewed, acceptMade, configMade, continuationMade, inRoom, shifted}
 use Rattle.room_fill.specs.declared.Flagged.{Flagged}
 use Rattle.room_fill.specs.declared.Flagged.the-variants.{Accept, Config}
 use Rattle.room_fill.specs.Flagged.{leads, flags, flaggedAt, flaggedMade}
@@ -44,8 +44,8 @@ pub ruleset flagging = (needs, flag-0, flag-1)
 
 -- A place
 
-pub place-put : (p n : ℕ) (d : List ℕ) → n + length (shifted p) ≤ length d → Put (shifted p) n d (n + 1) (set d n (p + 9))
-place-put p n d h = put-one (p + 9) [] n d (record { next = omega arith; is = sym (lay-none (n + 1) _) }) (omega arith)
+pub place-put : (p n : ℕ) (d : List ℕ) → n + length (shifted p) ≤ length d → Put (shifted p) n d (n + 1) (set d n (inRoom p))
+place-put p n d h = put-one (inRoom p) [] n d (record { next = omega arith; is = sym (lay-none (n + 1) _) }) (omega arith)
 
 pub ruleset shifting = (needs, place-put)
 

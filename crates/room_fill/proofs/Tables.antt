@@ -18,10 +18,11 @@ use Rattle.word_layout.proofs.Found.{order, there, accepts-there, continuations
 use Rattle.word_layout.specs.Limits.{laidOut}
 use Rattle.word_layout.proofs.Laws.{kept}
 use Rattle.refusal.specs.declared.Refusal.{Refusal}
+use Rattle.refusal.specs.Header.{WORD-COUNT, MODES-START, HEADER-NUMBERS}
 use Rattle.buffer.specs.Over.{Put, zeros}
 use Rattle.buffer.proofs.Overs.{lay-none, lay-zeros}
 use Rattle.buffer.proofs.Going.{put-one, put-two, put-size, put-size-1}
-use Rattle.room_fill.specs.Room.{four, header, made, places, numbers, roomFor}
+use Rattle.room_fill.specs.Room.{inRoom, four, header, made, places, numbers, roomFor}
 use Rattle.room_fill.proofs.Parts.{first-room, middle-room, two-room, three-room, two-put, three-put}
 use Rattle.room_fill.proofs.Sizes.{numbers-length}
 
@@ -44,17 +45,17 @@ module _ (n : ℕ) (d : List ℕ) where
   quad-places k h i l = omega (arith, ltb-true k 5 i)
 
   pub quad-put : (p q r s : ℕ) → n + 4 ≤ length d
-      → Put (four p q r s) n d (n + 4) (set (set (set (set d n (p + 9)) (n + 1) (q + 9)) (n + 2) (r + 9)) (n + 3) (s + 9))
+      → Put (four p q r s) n d (n + 4) (set (set (set (set d n (inRoom p)) (n + 1) (inRoom q)) (n + 2) (inRoom r)) (n + 3) (inRoom s))
   quad-put p q r s h =
-      let d₂ = set (set d n (p + 9)) (n + 1) (q + 9) in
-      let d₄ = set (set d₂ (n + 2) (r + 9)) (n + 3) (s + 9) in
-      let l : length d₂ ≡ length d = length-set (set d n (p + 9)) (n + 1) (q + 9) ∙ length-set d n (p + 9) in
+      let d₂ = set (set d n (inRoom p)) (n + 1) (inRoom q) in
+      let d₄ = set (set d₂ (n + 2) (inRoom r)) (n + 3) (inRoom s) in
+      let l : length d₂ ≡ length d = length-set (set d n (inRoom p)) (n + 1) (inRoom q) ∙ length-set d n (inRoom p) in
       let none : Put [] (n + 4) d₄ (n + 4) d₄ = record { next = omega arith; is = sym (lay-none (n + 4) d₄) } in
       let i : n + 4 ≡ n + 2 + 2 = omega arith in
       let j : n + 3 ≡ n + 2 + 1 = omega arith in
-      let step : Put [] (n + 2 + 2) (set (set d₂ (n + 2) (r + 9)) (n + 2 + 1) (s + 9)) (n + 4) d₄ = rw (← i, ← j) none in
-      let back = put-two (r + 9) (s + 9) [] (n + 2) d₂ step (omega arith) in
-      put-two (p + 9) (q + 9) ((r + 9) ∷ (s + 9) ∷ []) n d back (omega arith)
+      let step : Put [] (n + 2 + 2) (set (set d₂ (n + 2) (inRoom r)) (n + 2 + 1) (inRoom s)) (n + 4) d₄ = rw (← i, ← j) none in
+      let back = put-two (inRoom r) (inRoom s) [] (n + 2) d₂ step (omega arith) in
+      put-two (inRoom p) (inRoom q) (inRoom r ∷ inRoom s ∷ []) n d back (omega arith)
 
 pub ruleset fours = (needs, quad-1, quad-2, quad-3, quad-4, quad-places, quad-put)
 
@@ -66,22 +67,22 @@ module _ (w : List ℕ) (s : Sections) (d : List ℕ) where
   abbrev other : List ℕ
   other = four (s .wide) (s .accepts) (s .escapes) (s .continuations)
 
-  pub header-first : (n : ℕ) → 9 ≤ length d → 1 + 4 ≤ length (set d 0 n)
-  header-first n h = omega (arith, length-set d 0 n)
+  pub header-first : (n : ℕ) → HEADER-NUMBERS ≤ length d → MODES-START + 4 ≤ length (set d WORD-COUNT n)
+  header-first n h = omega (arith, length-set d WORD-COUNT n)
 
   module _ {k : ℕ} {d₁ : List ℕ} where
-    pub header-second : (n : ℕ) → Put one 1 (set d 0 n) k d₁ → 9 ≤ length d → k + 4 ≤ length d₁
-    header-second n p h = omega (arith, p .next, put-size-1 0 n d p)
+    pub header-second : (n : ℕ) → Put one MODES-START (set d WORD-COUNT n) k d₁ → HEADER-NUMBERS ≤ length d → k + 4 ≤ length d₁
+    header-second n p h = omega (arith, p .next, put-size-1 WORD-COUNT n d p)
 
     module _ {l : ℕ} {d₂ : List ℕ} where
-      pub header-put : Put one 1 (set d 0 (length w)) k d₁ → Put other k d₁ l d₂ → 9 ≤ length d → Put (header w s) 0 d l d₂
+      pub header-put : Put one MODES-START (set d WORD-COUNT (length w)) k d₁ → Put other k d₁ l d₂ → HEADER-NUMBERS ≤ length d → Put (header w s) 0 d l d₂
       unfolding header
       header-put p q h =
-          let tail = two-put one other 1 (set d 0 (length w)) q p (omega (arith, length-set d 0 (length w))) in
-          put-one (length w) (one ++ other) 0 d tail (omega arith)
+          let tail = two-put one other MODES-START (set d WORD-COUNT (length w)) q p (omega (arith, length-set d WORD-COUNT (length w))) in
+          put-one (length w) (one ++ other) WORD-COUNT d tail (omega arith)
 
-      pub header-size : (n : ℕ) → Put one 1 (set d 0 n) k d₁ → Put other k d₁ l d₂ → length d₂ ≡ length d
-      header-size n p q = put-size q ∙ put-size-1 0 n d p
+      pub header-size : (n : ℕ) → Put one MODES-START (set d WORD-COUNT n) k d₁ → Put other k d₁ l d₂ → length d₂ ≡ length d
+      header-size n p q = put-size q ∙ put-size-1 WORD-COUNT n d p
 
 -- a count is one of few words
 pub few : {p : ℕ} (n : ℕ) → p < n → n ≤ 8192 → p ≤ 8192

@@ -61,15 +61,19 @@ made w s = copied w 0 (s .accepts) ++ (renewed acceptAt acceptMade w (s .accepts
 
 -- Places in the room: the words stand behind the header
 
+-- the place p of the words, as it is in the room
+abbrev pub inRoom : ℕ → ℕ
+inRoom p = p + HEADER-NUMBERS
+
 abbrev pub shifted : ℕ → List ℕ
-shifted p = (p + HEADER-NUMBERS) ∷ []
+shifted p = inRoom p ∷ []
 
 -- where the records of a section start
 unfoldable pub placed : (List ℕ → ℕ → Place) → List ℕ → ℕ → List ℕ
 placed read w at = each shifted (starts (read w) (getD w at 0) (at + 1))
 
 abbrev pub four : ℕ → ℕ → ℕ → ℕ → List ℕ
-four a b c d = (a + HEADER-NUMBERS) ∷ (b + HEADER-NUMBERS) ∷ (c + HEADER-NUMBERS) ∷ (d + HEADER-NUMBERS) ∷ []
+four a b c d = inRoom a ∷ inRoom b ∷ inRoom c ∷ inRoom d ∷ []
 
 -- the word count, and where the sections' counts stand
 unfoldable pub header : List ℕ → Sections → List ℕ

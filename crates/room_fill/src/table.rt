@@ -2,6 +2,7 @@
 ghost use mathlib.Core.Path.{_≡_};
 ghost use Prim.Native.Nat.{_≤_, _+_};
 ghost use lib.ListN.{length};
+ghost use Rattle.refusal.specs.Header.{HEADER-NUMBERS};
 ghost use Rattle.word_layout.specs.declared.Layout.the-variants.{Found};
 ghost use Rattle.word_layout.specs.Layout.{layoutOf};
 ghost use Rattle.buffer.specs.Over.{Put};
@@ -32,7 +33,7 @@ fn put_four(a: usize, b: usize, c: usize, d: usize, room: &mut [u32], n: usize) 
 fn put_header(words: &[u32], s: Sections, room: &mut [u32]) -> usize
     requires found { ⌜ layoutOf (now words) ≡ Found s ⌝ }
     requires limit { ⌜ length (now words) ≤ 8192 ⌝ }
-    requires fits { ⌜ 9 ≤ length (now room) ⌝ }
+    requires fits { ⌜ HEADER-NUMBERS ≤ length (now room) ⌝ }
     ensures { λ r. ⌜ Put (header (now (words .entry)) s) 0 (now (room .entry)) r (now (room .exit)) ⌝ }
 {
     room[WORD_COUNT] = words.len() as u32;

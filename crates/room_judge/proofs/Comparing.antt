@@ -17,6 +17,7 @@ use lib.Seq.{drop-cons}
 use Rattle.refusal.specs.declared.Refusal.{Refusal}
 use Rattle.refusal.specs.Said.{NOT-TABLE}
 use Rattle.refusal.specs.Lists.{pick, every, each}
+use Rattle.refusal.specs.Header.{MODES-START, WIDE-START}
 use Rattle.word_reader.specs.declared.Sections.{Sections}
 use Rattle.word_reader.specs.declared.Place.{Place}
 use Rattle.word_reader.specs.declared.Place.the-variants.{Next, Refused}
@@ -30,7 +31,7 @@ use Rattle.rule_walk.specs.declared.Question.the-variants.{AcceptIsPlain, Conti
 use Rattle.rule_walk.specs.Questions.{allPass}
 use Rattle.room_fill.specs.Room.{startsFrom, starts, shifted, placed, places}
 use Rattle.room_fill.proofs.Writing.{record-limit}
-use Rattle.room_judge.specs.Standing.{standsAt, fourStand, eightStand, standing, placeAfter, emptyFrom, flagsPlain}
+use Rattle.room_judge.specs.Standing.{standsAt, placeStands, fourStand, eightStand, standing, placeAfter, emptyFrom, flagsPlain}
 
 -- One number
 
@@ -57,16 +58,16 @@ next-fits x n d e i l = let h : n < length d = stands-within x n d (sym e ∙ i)
 pub ruleset standing-one = (needs, stands-past, stands-there)
 
 -- four, one behind the other
-pub stand-four : (a b c d n : ℕ) (l : List ℕ) {p q r s : Bool} → p ≡ standsAt (a + 9) n l → q ≡ standsAt (b + 9) (n + 1) l → r ≡ standsAt (c + 9) (n + 2) l
-    → s ≡ standsAt (d + 9) (n + 3) l → (((p && q) && r) && s) ≡ fourStand a b c d n l
+pub stand-four : (a b c d n : ℕ) (l : List ℕ) {p q r s : Bool} → p ≡ placeStands a n l → q ≡ placeStands b (n + 1) l → r ≡ placeStands c (n + 2) l
+    → s ≡ placeStands d (n + 3) l → (((p && q) && r) && s) ≡ fourStand a b c d n l
 unfolding fourStand
 stand-four a b c d n l e f g h = rw (e, f, g, h)
 
 pub ruleset standing-four = (needs, stand-four)
 
 -- and four behind those
-pub stand-eight : (s : Sections) (l : List ℕ) {p q : Bool} → p ≡ fourStand (s .modes) (s .states) (s .runs) (s .ascii) 1 l
-    → q ≡ fourStand (s .wide) (s .accepts) (s .escapes) (s .continuations) 5 l → (p && q) ≡ eightStand s l
+pub stand-eight : (s : Sections) (l : List ℕ) {p q : Bool} → p ≡ fourStand (s .modes) (s .states) (s .runs) (s .ascii) MODES-START l
+    → q ≡ fourStand (s .wide) (s .accepts) (s .escapes) (s .continuations) WIDE-START l → (p && q) ≡ eightStand s l
 unfolding eightStand
 stand-eight s l i j = rw (i, j)
 
@@ -79,7 +80,7 @@ module _ (g : ℕ → Place) (d : List ℕ) where
   coming left here m = standing (each shifted (starts g left here)) m d
 
   module _ (left here m : ℕ) {got all : Place} where
-    pub place-passed : {p : ℕ} {ok : Bool} → coming left here m ≡ all → 0 < left → got ≡ g here → got ≡ Next p → ok ≡ standsAt (here + 9) m d → ok ≡ true
+    pub place-passed : {p : ℕ} {ok : Bool} → coming left here m ≡ all → 0 < left → got ≡ g here → got ≡ Next p → ok ≡ placeStands here m d → ok ≡ true
         → coming (left - 1) p (m + 1) ≡ all
     unfolding each starts startsFrom standing
     place-passed {p} i h e n o y = go left h i
@@ -88,7 +89,7 @@ module _ (g : ℕ → Place) (d : List ℕ) where
         go zero h i = absurd (not-suc-le-zero h)
         go (suc k) h i = rw sub-one (rw (← e, n, ← o, y) at i)
 
-    pub place-failed : {p : ℕ} {ok : Bool} → coming left here m ≡ all → 0 < left → got ≡ g here → got ≡ Next p → ok ≡ standsAt (here + 9) m d → ok ≡ false
+    pub place-failed : {p : ℕ} {ok : Bool} → coming left here m ≡ all → 0 < left → got ≡ g here → got ≡ Next p → ok ≡ placeStands here m d → ok ≡ false
         → length d + 1 ≡ placeAfter all d
     unfolding each starts startsFrom standing placeAfter
     place-failed {p} i h e n o y = go left h i

@@ -12,6 +12,7 @@ use Rattle.refusal.specs.declared.Refusal.{Refusal}
 use Rattle.refusal.specs.Said.{NOT-TABLE, LIMIT, ROOM, INDEX}
 use Rattle.refusal.proofs.Lists.{and-split, same-equal, equal-same}
 use Rattle.refusal.specs.Lists.{pick, sameList}
+use Rattle.refusal.specs.Header.{WORD-COUNT, MODES-START, WIDE-START, HEADER-NUMBERS, wordCount}
 use Rattle.word_reader.specs.declared.Place.{Place}
 use Rattle.word_reader.specs.declared.Place.the-variants.{Next, Refused}
 use Rattle.word_reader.specs.declared.Sections.{Sections}
@@ -22,12 +23,12 @@ use Rattle.word_layout.proofs.Found.{modes-there, states-there, runs-there, asc
 use Rattle.rule_words.specs.Rules.{broken}
 use Rattle.buffer.specs.Over.{zeros, padded}
 use Rattle.word_layout.specs.Limits.{laidOut}
-use Rattle.room_fill.specs.Room.{four, header, made, places, numbers, roomFor}
+use Rattle.room_fill.specs.Room.{inRoom, four, header, made, places, numbers, roomFor}
 use Rattle.room_fill.proofs.Sizes.{made-length}
 use Rattle.room_decode.specs.declared.Decoded.the-variants as decoded
 use Rattle.room_decode.specs.declared.Decoded.the-variants.{Table}
 use Rattle.room_decode.specs.Decode.{judged, decodedFrom, keptFrom}
-use Rattle.room_judge.specs.Standing.{Few, standsAt, standing, placeAfter, emptyFrom, emptyBehind, fourStand, eightStand, flagsPlain, filled, sound}
+use Rattle.room_judge.specs.Standing.{Few, standing, placeAfter, emptyFrom, emptyBehind, placeStands, fourStand, eightStand, flagsPlain, filled, sound}
 use Rattle.room_judge.specs.Judge.{wordsPart, Part, accepted, isTable, tableIn}
 use Rattle.room_judge.proofs.Stood.{moved, alike, stands-in, cons-stands, cons-stood, append-stands, append-stood}
 use Rattle.room_judge.proofs.Stood.{stood-within, stood-next, stood-is, stands-part, whole-stood, whole-stands}
@@ -52,36 +53,36 @@ module _ (m s r a n : ℕ) (d : List ℕ) where
   four-stands : fourStand m s r a n d ≡ true → standing (four m s r a) n d ≡ Next (n + 4)
   unfolding fourStand
   four-stands h =
-      let k = and-split _ (standsAt (a + 9) (n + 3) d) h in
-      let j = and-split _ (standsAt (r + 9) (n + 2) d) (k .0) in
-      let i = and-split (standsAt (m + 9) n d) (standsAt (s + 9) (n + 1) d) (j .0) in
-      let t₃ = cons-stands (a + 9) [] (n + 3) d (k .1) (none-stands (n + 3 + 1) d ∙ ap Next last) in
-      let t₂ = cons-stands (r + 9) _ (n + 2) d (j .1) (moved _ d (n + 2 + 1) (n + 3) three t₃) in
-      let t₁ = cons-stands (s + 9) _ (n + 1) d (i .1) (moved _ d (n + 1 + 1) (n + 2) two t₂) in
-      cons-stands (m + 9) _ n d (i .0) t₁
+      let k = and-split _ (placeStands a (n + 3) d) h in
+      let j = and-split _ (placeStands r (n + 2) d) (k .0) in
+      let i = and-split (placeStands m n d) (placeStands s (n + 1) d) (j .0) in
+      let t₃ = cons-stands (inRoom a) [] (n + 3) d (k .1) (none-stands (n + 3 + 1) d ∙ ap Next last) in
+      let t₂ = cons-stands (inRoom r) _ (n + 2) d (j .1) (moved _ d (n + 2 + 1) (n + 3) three t₃) in
+      let t₁ = cons-stands (inRoom s) _ (n + 1) d (i .1) (moved _ d (n + 1 + 1) (n + 2) two t₂) in
+      cons-stands (inRoom m) _ n d (i .0) t₁
 
   four-stood : {p : ℕ} → standing (four m s r a) n d ≡ Next p → (p ≡ n + 4) × (fourStand m s r a n d ≡ true)
   unfolding fourStand
   four-stood {p} h =
-      let i₀ = cons-stood (m + 9) _ n d h in
-      let i₁ = cons-stood (s + 9) _ (n + 1) d (i₀ .1) in
-      let i₂ = cons-stood (r + 9) _ (n + 2) d (moved _ d (n + 2) (n + 1 + 1) (sym two) (i₁ .1)) in
-      let i₃ = cons-stood (a + 9) _ (n + 3) d (moved _ d (n + 3) (n + 2 + 1) (sym three) (i₂ .1)) in
+      let i₀ = cons-stood (inRoom m) _ n d h in
+      let i₁ = cons-stood (inRoom s) _ (n + 1) d (i₀ .1) in
+      let i₂ = cons-stood (inRoom r) _ (n + 2) d (moved _ d (n + 2) (n + 1 + 1) (sym two) (i₁ .1)) in
+      let i₃ = cons-stood (inRoom a) _ (n + 3) d (moved _ d (n + 3) (n + 2 + 1) (sym three) (i₂ .1)) in
       (omega (arith, stood-next (four m s r a) n d p h), rw (i₀ .0, i₁ .0, i₂ .0) (i₃ .0))
 
 -- The room of found sections
 
 module _ (w d : List ℕ) (part : w ≡ wordsPart d) (limit : length w ≤ 8192) (room : 16384 ≤ length d) where
   -- the first number is the word count
-  count-is : getD d 0 0 ≡ length w
+  count-is : wordCount d ≡ length w
   unfolding wordsPart
   count-is =
-      let l = ap length part ∙ length-take (getD d 0 0) (drop 9 d) in
-      omega (arith, l, length-drop 9 d)
+      let l = ap length part ∙ length-take (wordCount d) (drop HEADER-NUMBERS d) in
+      omega (arith, l, length-drop HEADER-NUMBERS d)
 
-  part-is : take (length w) (drop 9 d) ≡ w
+  part-is : take (length w) (drop HEADER-NUMBERS d) ≡ w
   unfolding wordsPart
-  part-is = ap (λ (n : ℕ). take n (drop 9 d)) (sym count-is) ∙ sym part
+  part-is = ap (λ (n : ℕ). take n (drop HEADER-NUMBERS d)) (sym count-is) ∙ sym part
 
   module _ {s : Sections} (l : layoutOf w ≡ Found s) where
     abbrev one : List ℕ
@@ -95,19 +96,20 @@ module _ (w d : List ℕ) (part : w ≡ wordsPart d) (limit : length w ≤ 8192)
     to h =
         let i = and-split (eightStand s d) _ h in
         let j = and-split (flagsPlain w (s .accepts) (s .continuations)) _ (i .1) in
-        let f = and-split (fourStand (s .modes) (s .states) (s .runs) (s .ascii) 1 d)
-        (fourStand (s .wide) (s .accepts) (s .escapes) (s .continuations) 5 d) (i .0) in
-        let head = cons-stands (length w) (one ++ other) 0 d (stands-in (length w) 0 d (omega arith) count-is)
-        (append-stands one other 1 d (four-stands (s .modes) (s .states) (s .runs) (s .ascii) 1 d (f .0))
-        (four-stands (s .wide) (s .accepts) (s .escapes) (s .continuations) 5 d (f .1))) in
+        let f = and-split (fourStand (s .modes) (s .states) (s .runs) (s .ascii) MODES-START d)
+        (fourStand (s .wide) (s .accepts) (s .escapes) (s .continuations) WIDE-START d) (i .0) in
+        let head = cons-stands (length w) (one ++ other) WORD-COUNT d (stands-in (length w) WORD-COUNT d (omega arith) count-is)
+        (append-stands one other MODES-START d (four-stands (s .modes) (s .states) (s .runs) (s .ascii) MODES-START d (f .0))
+        (four-stands (s .wide) (s .accepts) (s .escapes) (s .continuations) WIDE-START d (f .1))) in
         let same = plain-made w l (j .0) in
-        let words : standing (made w s) 9 d ≡ Next (9 + length w) = rw same (stands-part w 9 d part-is) in
-        go (standing (places w s) (length w + 9) d) refl (j .1) (λ q k. append-stands (header w s) _ 0 d head (append-stands (made w s) _ 9 d words k))
+        let words : standing (made w s) HEADER-NUMBERS d ≡ Next (HEADER-NUMBERS + length w) = rw same (stands-part w HEADER-NUMBERS d part-is) in
+        go (standing (places w s) (length w + HEADER-NUMBERS) d) refl (j .1)
+        (λ q k. append-stands (header w s) _ 0 d head (append-stands (made w s) _ HEADER-NUMBERS d words k))
       where
-        go : (o : Place) → standing (places w s) (length w + 9) d ≡ o → emptyBehind o d ≡ true
-            → ((q : ℕ) → standing (places w s) (9 + length w) d ≡ Next q → standing (numbers w s) 0 d ≡ Next q)
+        go : (o : Place) → standing (places w s) (length w + HEADER-NUMBERS) d ≡ o → emptyBehind o d ≡ true
+            → ((q : ℕ) → standing (places w s) (HEADER-NUMBERS + length w) d ≡ Next q → standing (numbers w s) 0 d ≡ Next q)
             → padded (length d) (numbers w s) ≡ d
-        go (Next q) g z k = let n : 9 + length w ≡ length w + 9 = omega arith in whole-stood _ d (k q (moved _ d _ _ n g)) z
+        go (Next q) g z k = let n : HEADER-NUMBERS + length w ≡ length w + HEADER-NUMBERS = omega arith in whole-stood _ d (k q (moved _ d _ _ n g)) z
         go (Refused o) g z k = let y : _≡_ {A = ℕ} 0 1 = cc in absurd (omega arith)
 
     from : padded (length d) (numbers w s) ≡ d → filled w s d ≡ true
@@ -115,16 +117,17 @@ module _ (w d : List ℕ) (part : w ≡ wordsPart d) (limit : length w ≤ 8192)
     from h =
         let i = whole-stands (numbers w s) d h in
         let k₀ = append-stood (length w ∷ (one ++ other)) _ 0 d (i .0) in
-        let k₁ = append-stood one other 1 d (cons-stood (length w) _ 0 d (k₀ .1) .1) in
-        let f = four-stood (s .modes) (s .states) (s .runs) (s .ascii) 1 d (k₁ .1) in
-        let g = four-stood (s .wide) (s .accepts) (s .escapes) (s .continuations) 5 d (moved other d 5 (k₁ .0) (sym (f .0)) (k₁ .2)) in
-        let q₉ : k₀ .0 ≡ 9 = g .0 in
-        let k₂ = append-stood (made w s) (places w s) 9 d (moved _ d 9 (k₀ .0) (sym q₉) (k₀ .2)) in
-        let n = stood-next (made w s) 9 d _ (k₂ .1) in
-        let o : k₂ .0 ≡ length w + 9 = omega (arith, n, made-length w l) in
-        let same : made w s ≡ w = sym (stood-is (made w s) 9 d _ (k₂ .1)) ∙ ap (λ (p : ℕ). take p (drop 9 d)) (made-length w l) ∙ part-is in
+        let k₁ = append-stood one other MODES-START d (cons-stood (length w) _ WORD-COUNT d (k₀ .1) .1) in
+        let f = four-stood (s .modes) (s .states) (s .runs) (s .ascii) MODES-START d (k₁ .1) in
+        let g = four-stood (s .wide) (s .accepts) (s .escapes) (s .continuations) WIDE-START d (moved other d WIDE-START (k₁ .0) (sym (f .0)) (k₁ .2)) in
+        let q₉ : k₀ .0 ≡ HEADER-NUMBERS = g .0 in
+        let k₂ = append-stood (made w s) (places w s) HEADER-NUMBERS d (moved _ d HEADER-NUMBERS (k₀ .0) (sym q₉) (k₀ .2)) in
+        let n = stood-next (made w s) HEADER-NUMBERS d _ (k₂ .1) in
+        let o : k₂ .0 ≡ length w + HEADER-NUMBERS = omega (arith, n, made-length w l) in
+        let same : made w s ≡ w =
+        sym (stood-is (made w s) HEADER-NUMBERS d _ (k₂ .1)) ∙ ap (λ (p : ℕ). take p (drop HEADER-NUMBERS d)) (made-length w l) ∙ part-is in
         let b = made-plain w l same in
-        let t = moved (places w s) d (length w + 9) (k₂ .0) (sym o) (k₂ .2) in
+        let t = moved (places w s) d (length w + HEADER-NUMBERS) (k₂ .0) (sym o) (k₂ .2) in
         rw (f .1, g .1, b, t) (i .1)
 
     -- all tests hold exactly where the room is what is written
@@ -179,21 +182,22 @@ module _ (d : List ℕ) {n : Layout} where
   unfolding laidOut
   too-short h = refused-is {o = record { number = ROOM; place = 0 }} (rw (lt-ltb (length d) 16384 h))
 
-  pub too-many : (k : ℕ) → k ≡ getD d 0 0 → 16384 ≤ length d → 8192 < k → n ≡ notTable → n ≡ tableIn d
+  pub too-many : (k : ℕ) → k ≡ wordCount d → 16384 ≤ length d → 8192 < k → n ≡ notTable → n ≡ tableIn d
   unfolding laidOut wordsPart
   too-many k e h l =
-      let i = length-take (getD d 0 0) (drop 9 d) in
-      let j : 8192 < length (take (getD d 0 0) (drop 9 d)) = omega (arith, i, length-drop 9 d) in
-      refused-is {o = record { number = LIMIT; place = 8192 }} (rw (le-ltb (length d) 16384 h, lt-ltb 8192 (length (take (getD d 0 0) (drop 9 d))) j))
+      let i = length-take (wordCount d) (drop HEADER-NUMBERS d) in
+      let j : 8192 < length (take (wordCount d) (drop HEADER-NUMBERS d)) = omega (arith, i, length-drop HEADER-NUMBERS d) in
+      refused-is {o = record { number = LIMIT; place = 8192 }}
+      (rw (le-ltb (length d) 16384 h, lt-ltb 8192 (length (take (wordCount d) (drop HEADER-NUMBERS d))) j))
 
 -- the words, as `&room[9..9 + count]` reads them
 module _ (d : List ℕ) (k : ℕ) where
-  pub words-few : k ≤ 8192 → length (take (9 + k - 9) (drop 9 d)) ≤ 8192
-  words-few h = omega (arith, length-take (9 + k - 9) (drop 9 d))
+  pub words-few : k ≤ 8192 → length (take (HEADER-NUMBERS + k - HEADER-NUMBERS) (drop HEADER-NUMBERS d)) ≤ 8192
+  words-few h = omega (arith, length-take (HEADER-NUMBERS + k - HEADER-NUMBERS) (drop HEADER-NUMBERS d))
 
-  pub words-part : k ≡ getD d 0 0 → 16384 ≤ length d → k ≤ 8192 → Part (take (9 + k - 9) (drop 9 d)) d
+  pub words-part : k ≡ wordCount d → 16384 ≤ length d → k ≤ 8192 → Part (take (HEADER-NUMBERS + k - HEADER-NUMBERS) (drop HEADER-NUMBERS d)) d
   unfolding wordsPart
-  words-part e h l = let i : 9 + k - 9 ≡ getD d 0 0 = omega arith in record { is = rw i; limit = words-few l; room = h }
+  words-part e h l = let i : HEADER-NUMBERS + k - HEADER-NUMBERS ≡ wordCount d = omega arith in record { is = rw i; limit = words-few l; room = h }
 
 pub same-found : (w : List ℕ) {x got : Layout} → got ≡ layoutOf w → got ≡ x → layoutOf w ≡ x
 same-found w g i = sym g ∙ i
@@ -236,16 +240,16 @@ module _ (w d : List ℕ) (s : Sections) where
 
   module _ {ok t : Bool} {p : ℕ} where
     pub filled-places : ok ≡ eightStand s d → ok ≡ true → t ≡ flagsPlain w (s .accepts) (s .continuations) → t ≡ true
-        → p ≡ placeAfter (standing (places w s) (length w + 9) d) d
+        → p ≡ placeAfter (standing (places w s) (length w + HEADER-NUMBERS) d) d
         → length w ≤ 8192 → 16384 ≤ length d → length d < p → false ≡ filled w s d
     unfolding filled
-    filled-places o y u z g h l f = rw (← o, y, ← u, z) (past (places w s) (length w + 9) d g (omega arith) f)
+    filled-places o y u z g h l f = rw (← o, y, ← u, z) (past (places w s) (length w + HEADER-NUMBERS) d g (omega arith) f)
 
     pub filled-all : {n : Bool} → ok ≡ eightStand s d → ok ≡ true → t ≡ flagsPlain w (s .accepts) (s .continuations) → t ≡ true
-        → p ≡ placeAfter (standing (places w s) (length w + 9) d) d
+        → p ≡ placeAfter (standing (places w s) (length w + HEADER-NUMBERS) d) d
         → p ≤ length d → n ≡ emptyFrom p d → n ≡ filled w s d
     unfolding filled
-    filled-all o y u z g f h = h ∙ (rw (← o, y, ← u, z) (here (places w s) (length w + 9) d g f))
+    filled-all o y u z g f h = h ∙ (rw (← o, y, ← u, z) (here (places w s) (length w + HEADER-NUMBERS) d g f))
 
 -- no rule is broken, or one is
 module _ (w d : List ℕ) (s : Sections) {k : ℕ} where

@@ -7,7 +7,7 @@ use lib.ListN.{length, getD, drop}
 use lib.Dec.{eqb, ltb}
 use Rattle.refusal.specs.Said.{NOT-TABLE}
 use Rattle.refusal.specs.Lists.{pick, every}
-use Rattle.refusal.specs.Header.{HEADER-NUMBERS}
+use Rattle.refusal.specs.Header.{MODES-START, WIDE-START, HEADER-NUMBERS}
 use Rattle.word_reader.specs.declared.Sections.{Sections}
 use Rattle.word_reader.specs.declared.Place.{Place}
 use Rattle.word_reader.specs.declared.Place.the-variants.{Next, Refused}
@@ -15,7 +15,7 @@ use Rattle.word_reader.specs.Parse.{refused}
 use Rattle.word_reader.specs.Records.{acceptAt, continuationAt}
 use Rattle.rule_words.specs.Rules.{everyIn, broken}
 use Rattle.rule_words.specs.Flags.{acceptPlain, continuationPlain}
-use Rattle.room_fill.specs.Room.{places}
+use Rattle.room_fill.specs.Room.{inRoom, places}
 
 -- Numbers that stand in a room
 
@@ -44,15 +44,17 @@ emptyBehind (Refused r) d = false
 
 -- The places of sections and records: in the room, the words stand behind the header
 
--- the place p of the words, as it is in the room, is the number at n
+-- the place p of the words is the number at n
 abbrev pub placeStands : ℕ → ℕ → List ℕ → Bool
-placeStands p n d = standsAt (p + HEADER-NUMBERS) n d
+placeStands p n d = standsAt (inRoom p) n d
 
 unfoldable pub fourStand : ℕ → ℕ → ℕ → ℕ → ℕ → List ℕ → Bool
 fourStand p q r s n d = ((placeStands p n d && placeStands q (n + 1) d) && placeStands r (n + 2) d) && placeStands s (n + 3) d
 
 unfoldable pub eightStand : Sections → List ℕ → Bool
-eightStand s d = fourStand (s .modes) (s .states) (s .runs) (s .ascii) 1 d && fourStand (s .wide) (s .accepts) (s .escapes) (s .continuations) 5 d
+eightStand s d =
+    fourStand (s .modes) (s .states) (s .runs) (s .ascii) MODES-START d
+    && fourStand (s .wide) (s .accepts) (s .escapes) (s .continuations) WIDE-START d
 
 -- the places are those of few words
 pub record Few (s : Sections) : Type 0 where

@@ -7,7 +7,7 @@ ghost use Rattle.word_sections.specs.Kinds.{recordAt};
 ghost use Rattle.room_fill.specs.Room.{placed, places};
 ghost use Rattle.word_layout.specs.declared.Layout.the-variants.{Found};
 ghost use Rattle.word_layout.specs.Layout.{layoutOf};
-ghost use Rattle.room_judge.specs.Standing.{Few, standsAt, fourStand, eightStand, standing, placeAfter};
+ghost use Rattle.room_judge.specs.Standing.{Few, placeStands, fourStand, eightStand, standing, placeAfter};
 use refusal::HEADER_NUMBERS;
 use refusal::MODES_START;
 use refusal::WIDE_START;
@@ -18,7 +18,7 @@ use word_sections::Kind;
 // The place in the room of what is at `at` of the words stands at `n`.
 fn place_stands(at: usize, room: &[u32], n: usize) -> bool
     requires within { ⌜ at ≤ 8192 ⌝ }
-    ensures { λ r. ⌜ r ≡ standsAt (at + 9) n (now (room .entry)) ⌝ }
+    ensures { λ r. ⌜ r ≡ placeStands at n (now (room .entry)) ⌝ }
 {
     if room.len() <= n {
         return false;
