@@ -1,2 +1,3 @@
 pub mod Overs
 pub mod Going
+pub mod Answers

@@ -1,8 +1,15 @@
-// Lent buffers made zero: of 32-bit numbers, and of the 64-bit words that masks have. In specs/ what it is to write a list over a part of
-// another, in proofs/ the law of every loop that does.
+// Lent buffers made zero: of 32-bit numbers, and of the 64-bit words that masks have; and what a call answers that writes into one. In specs/ what
+// it is to write a list over a part of another, in proofs/ the law of every loop that does.
 ghost use mathlib.Core.Path.{_≡_};
 ghost use lib.ListN.{length};
 ghost use Rattle.buffer.specs.Over.{zeros};
+use refusal::Refusal;
+
+// How many numbers were written, or why none were.
+pub enum Written {
+    Numbers(usize),
+    Refused(Refusal),
+}
 
 // How many numbers are read at a time, and written where they are not all 0.
 pub const BLOCK: usize = 256;

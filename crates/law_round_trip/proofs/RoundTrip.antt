@@ -9,6 +9,7 @@ use lib.ListN.{length, take, length-map, length-append, length-replicate}
 use lib.Seq.{take-at}
 use borrow.Author.Tests.{le-ltb, eq-eqb}
 use Rattle.refusal.proofs.Lists.{equal-same}
+use Rattle.buffer.specs.declared.Written.the-variants.{Numbers}
 use Rattle.buffer.specs.Over.{zeros, padded}
 use Rattle.room_fill.specs.Room.{roomFor, numbers}
 use Rattle.room_fill.proofs.Sizes.{numbers-length}
@@ -16,7 +17,6 @@ use Rattle.room_decode.specs.declared.Decoded.the-variants as decoded
 use Rattle.room_decode.specs.Decode.{judged, decodedFrom, decodeOf, keptFrom, roomOf}
 use Rattle.room_judge.specs.Judge.{wordsPart, accepted, isTable}
 use Rattle.room_judge.proofs.Tables.{laid, accepted-table}
-use Rattle.room_encode.specs.declared.Encoded.the-variants.{Words}
 use Rattle.room_encode.specs.Encode.{encodeOf, outOf}
 use Rattle.law_tables.specs.Table.{Table, Fields, All, wordsOf, runWords, wideWords, acceptWords, escapeWords, continuationWords}
 use Rattle.law_tables.specs.Whole.{Fit}
@@ -116,11 +116,11 @@ module _ (t : Table) (h : Fields t) (r : Rules t) (l : length (wordsOf t) ≤ 81
   unfolding isTable
   room-held = rw (room-part, room-size, decoded-again, table-decoded t h r l n room, room-again) (equal-same (roomOf (wordsOf t) n))
 
-  room-encoded : (k : ℕ) → length (wordsOf t) ≤ k → encodeOf (roomOf (wordsOf t) n) k ≡ Words (length (wordsOf t))
+  room-encoded : (k : ℕ) → length (wordsOf t) ≤ k → encodeOf (roomOf (wordsOf t) n) k ≡ Numbers (length (wordsOf t))
   unfolding encodeOf
   room-encoded k i =
       let j : length (wordsOf (normal t)) ≤ k = omega (arith, normal-size t) in
-      rw (room-held, room-part, le-ltb k (length (wordsOf (normal t))) j) (ap Words (normal-size t))
+      rw (room-held, room-part, le-ltb k (length (wordsOf (normal t))) j) (ap Numbers (normal-size t))
 
   room-out : (k : ℕ) → length (wordsOf t) ≤ k → outOf (roomOf (wordsOf t) n) k ≡ padded k (wordsOf (normal t))
   unfolding outOf

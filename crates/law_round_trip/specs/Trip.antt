@@ -4,10 +4,10 @@ use mathlib.Core.Path.{_≡_}
 use mathlib.Core.Bool.{true}
 use mathlib.Core.List.{List}
 use lib.ListN.{length}
+use Rattle.buffer.specs.declared.Written.the-variants.{Numbers}
 use Rattle.buffer.specs.Over.{padded}
 use Rattle.room_decode.specs.Decode.{decodeOf, roomOf}
 use Rattle.room_judge.specs.Judge.{wordsPart, accepted, isTable}
-use Rattle.room_encode.specs.declared.Encoded.the-variants.{Words}
 use Rattle.room_encode.specs.Encode.{encodeOf, outOf}
 use Rattle.law_tables.specs.Table.{Table, Fields, wordsOf}
 use Rattle.law_tables.specs.Rules.{Rules}
@@ -23,7 +23,7 @@ pub record Trip (w : List ℕ) (n : ℕ) : Type 0 where
   pub held : isTable (roomOf w n) ≡ true
   pub part : wordsPart (roomOf w n) ≡ wordsOf (normal table)
   -- encoding it gives those words, as many as there were
-  pub encoded : (k : ℕ) → length w ≤ k → encodeOf (roomOf w n) k ≡ Words (length w)
+  pub encoded : (k : ℕ) → length w ≤ k → encodeOf (roomOf w n) k ≡ Numbers (length w)
   pub out : (k : ℕ) → length w ≤ k → outOf (roomOf w n) k ≡ padded k (wordsOf (normal table))
   -- decoding those gives the same answer, and the same room, number for number
   pub again : decodeOf (wordsOf (normal table)) n ≡ decodeOf w n

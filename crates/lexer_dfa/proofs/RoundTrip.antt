@@ -12,6 +12,8 @@ use borrow.Author.Tests.{ltb-true, ltb-false, lt-ltb, le-ltb}
 use contract.Lifetimes.{Lfts}
 use denote.Ref.{RefT}
 use Rattle.refusal.specs.Said.{Said, ok, no, NOT-TABLE, ROOM}
+use Rattle.buffer.specs.declared.Written.{Written}
+use Rattle.buffer.specs.Written.{said}
 use Rattle.buffer.specs.Over.{zeros}
 use Rattle.room_decode.specs.declared.Decoded.{Decoded}
 use Rattle.room_decode.specs.declared.Decoded.the-variants.{Table, Refused}
@@ -19,8 +21,7 @@ use Rattle.room_decode.specs.Decode.{decodeOf, roomOf}
 use Rattle.room_decode.specs.Decode as decoding
 use Rattle.room_judge.specs.Judge.{wordsPart, accepted, isTable}
 use Rattle.room_judge.proofs.Tables.{own-words}
-use Rattle.room_encode.specs.declared.Encoded.{Encoded}
-use Rattle.room_encode.specs.Encode.{said, encodeOf, outOf}
+use Rattle.room_encode.specs.Encode.{encodeOf, outOf}
 use Rattle.law_tables.specs.Table.{wordsOf}
 use Rattle.law_tables.specs.Whole.{Fit}
 use Rattle.law_round_trip.specs.Normal.{normal}
@@ -180,7 +181,7 @@ module _ (d : List ℕ) (n : ℕ) where
 
 -- "Encoding and coverage give NOT-TABLE exactly when the room isn't what decoding leaves for some accepted words; encoding gives ROOM next, when the output is
 -- shorter than needed": and else it accepts, so that every room that it accepts comes from decoding
-pub encode-answers : (room out : RefT (List ℕ)) → Fit (room .now) → (x : Encoded) (left : List ℕ) → EncodeAnswers room out x left →
+pub encode-answers : (room out : RefT (List ℕ)) → Fit (room .now) → (x : Written) (left : List ℕ) → EncodeAnswers room out x left →
     EncodedBy (room .now) (length (out .now)) (said x)
 encode-answers room out f x left a =
     let d = room .now in
@@ -204,7 +205,7 @@ encode-answers room out f x left a =
     })
 
 -- "Refused: all outputs zero."
-pub encode-refused-zero : (room out : RefT (List ℕ)) (x : Encoded) (left : List ℕ) → EncodeAnswers room out x left →
+pub encode-refused-zero : (room out : RefT (List ℕ)) (x : Written) (left : List ℕ) → EncodeAnswers room out x left →
     (number p : ℕ) → said x ≡ no number p → left ≡ zeros (length (out .now))
 encode-refused-zero room out x left a number p e =
     let d = room .now in

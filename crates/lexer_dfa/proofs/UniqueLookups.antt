@@ -3,6 +3,7 @@ use Prim.Native.Nat.{ℕ}
 use mathlib.Core.Path.{_≡_, sym, _∙_}
 use mathlib.Core.List.{List}
 use denote.Ref.{RefT}
+use Rattle.buffer.proofs.Answers as written
 use Rattle.room_find.specs.Part.{PartOf}
 use Rattle.room_find.proofs.record_in.Reads as record-in
 use Rattle.room_find.proofs.find_state.Reads as find-state
@@ -15,7 +16,6 @@ use Rattle.look_modes.proofs.find_modes.Reads as find-modes
 use Rattle.look_modes.proofs.has_compiled_modes.Reads as has-compiled-modes
 use Rattle.look_modes.proofs.StartLaws as modes
 use Rattle.look_mode_lists.proofs.compiled_mode_flags.Reads as compiled-mode-flags
-use Rattle.look_mode_lists.proofs.Lists as mode-lists
 use Rattle.look_mode_lists.proofs.mode_state_counts.Reads as mode-state-counts
 use Rattle.look_targets.proofs.ascii_target.Reads as ascii-target
 use Rattle.look_targets.proofs.char_target.Reads as char-target
@@ -158,7 +158,7 @@ scan-ascii-run-length-unique κs a x y e f p q = state-run.said-one x y (p ∙ s
 -- mode_flags and mode_counts
 
 pub compiled-mode-flags-unique : DeterminesBoth (λ κs e. e .1 .0) compiled-mode-flags.Learnt
-compiled-mode-flags-unique κs a x y e f p q = (mode-lists.said-one x y (p .says ∙ sym (q .says)), p .leaves ∙ sym (q .leaves))
+compiled-mode-flags-unique κs a x y e f p q = (written.said-one x y (p .says ∙ sym (q .says)), p .leaves ∙ sym (q .leaves))
 
 pub mode-state-counts-unique : DeterminesBoth (λ κs e. e .1 .0) mode-state-counts.Learnt
-mode-state-counts-unique κs a x y e f p q = (mode-lists.said-one x y (p .says ∙ sym (q .says)), p .leaves ∙ sym (q .leaves))
+mode-state-counts-unique κs a x y e f p q = (written.said-one x y (p .says ∙ sym (q .says)), p .leaves ∙ sym (q .leaves))

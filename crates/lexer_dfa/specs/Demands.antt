@@ -10,6 +10,8 @@ use contract.Lifetimes.{Lfts}
 use denote.Ref.{RefT}
 use Rattle.refusal.specs.Said.{Said, ok, no, NOT-TABLE, ROOM}
 use Rattle.refusal.specs.Lists.{some}
+use Rattle.buffer.specs.declared.Written.{Written}
+use Rattle.buffer.specs.Written as written
 use Rattle.buffer.specs.Over.{padded}
 use Rattle.run_ranges.specs.declared.AsciiRange.{AsciiRange}
 use Rattle.run_ranges.specs.Ranges.{loopsAt, exitsAt, inRanges, ordered}
@@ -33,8 +35,6 @@ use Rattle.law_round_trip.specs.Normal.{normal}
 use Rattle.room_decode.specs.declared.Decoded.{Decoded}
 use Rattle.room_decode.specs.Decode as decoding
 use Rattle.room_decode.proofs.decode.Reads as decode
-use Rattle.room_encode.specs.declared.Encoded.{Encoded}
-use Rattle.room_encode.specs.Encode as encoding
 use Rattle.room_encode.proofs.encode.Reads as encode
 use Rattle.room_find.specs.declared.Answer.{Answer}
 use Rattle.room_coverage.specs.OnTable.{coverageOn}
@@ -61,7 +61,7 @@ pub record Accepted (w : List ℕ) (modes states words : ℕ) : Type 0 where
 -- Demand 2: "Encoding the result gives the same words with nonzero flags made 1; decoding that gives the same table."
 
 -- encode may answer x by its own contract, and leave these numbers in the output, which is its second argument at exit
-abbrev pub EncodeAnswers : (room out : RefT (List ℕ)) → Encoded → List ℕ → Type 0
+abbrev pub EncodeAnswers : (room out : RefT (List ℕ)) → Written → List ℕ → Type 0
 EncodeAnswers room out x left = (κs : Lfts 2) × (e : _) × encode.Learnt κs (room, (out, tt)) x e × (e .1 .0 .now ≡ left)
 
 -- v is the words w with nonzero flags made 1: w is the words of a table, and v those of the table with its flags so made
@@ -77,8 +77,8 @@ pub record RoundTrip (w : List ℕ) (n : ℕ) (x : Decoded) (d : List ℕ) : Typ
   pub flags : FlagsMade w made
   pub as-many : length made ≡ length w
   -- encoding the room into an output that is long enough answers how many words there are, and leaves them with nonzero flags made 1, then zeros
-  pub encoded : (room out : RefT (List ℕ)) → room .now ≡ d → length w ≤ length (out .now) → (y : Encoded) (left : List ℕ) → EncodeAnswers room out y left →
-      (encoding.said y ≡ ok (length w ∷ [])) × (left ≡ padded (length (out .now)) made)
+  pub encoded : (room out : RefT (List ℕ)) → room .now ≡ d → length w ≤ length (out .now) → (y : Written) (left : List ℕ) → EncodeAnswers room out y left →
+      (written.said y ≡ ok (length w ∷ [])) × (left ≡ padded (length (out .now)) made)
   -- decoding those into a room of as many numbers gives the same answer, and leaves the same room, number for number
   pub again : (words room : RefT (List ℕ)) → words .now ≡ made → length (room .now) ≡ n → (y : Decoded) (left : List ℕ) → DecodeAnswers words room y left →
       (y ≡ x) × (left ≡ d)

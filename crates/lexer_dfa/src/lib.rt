@@ -1,5 +1,6 @@
 // The face of Vohitsamba: the calls that a user makes and the types that they answer with, and nothing else.
 // What the calls promise together, the demands, the ply sheet's examples and uniqueness, stands in specs/ and proofs/.
+pub use buffer::Written;
 pub use list_distinct::distinct_masks;
 pub use list_intervals::read_intervals;
 pub use list_masks::Masks;
@@ -18,7 +19,6 @@ pub use look_continuation_records::continuation_contexts_span;
 pub use look_continuation_records::continuation_record;
 pub use look_continuations::char_continuation;
 pub use look_continuations::eof_continuation;
-pub use look_mode_lists::Listed;
 pub use look_mode_lists::compiled_mode_flags;
 pub use look_mode_lists::mode_state_counts;
 pub use look_modes::Compiled;
@@ -46,7 +46,6 @@ pub use refusal::Refusal;
 pub use room_coverage::coverage;
 pub use room_decode::Decoded;
 pub use room_decode::decode;
-pub use room_encode::Encoded;
 pub use room_encode::encode;
 pub use room_find::Answer;
 pub use room_find::Span;

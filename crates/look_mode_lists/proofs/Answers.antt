@@ -9,6 +9,8 @@ use lib.ListN.{length, length-append}
 use borrow.Author.Needs.{needs}
 use borrow.Author.Tests.{lt-ltb, le-ltb}
 use Rattle.refusal.specs.Said.{ok, no, ROOM, NOT-TABLE, ORDER}
+use Rattle.buffer.specs.declared.Written.{Written}
+use Rattle.buffer.specs.declared.Written.the-variants.{Numbers}
 use Rattle.buffer.specs.Over.{Put, zeros}
 use Rattle.look_modes.specs.declared.Modes.{Modes}
 use Rattle.look_modes.specs.declared.Modes.the-variants.{Starts, Outside}
@@ -17,8 +19,6 @@ use Rattle.look_modes.specs.declared.StateCount.the-variants.{States, NotTable}
 use Rattle.look_modes.specs.Modes.{countSaid, stateCount, numbers, modesUpTo, ofModes}
 use Rattle.look_modes.proofs.Numbers.{numbers-length}
 use Rattle.look_modes.proofs.AllModesLaws.{modes-lie}
-use Rattle.look_mode_lists.specs.declared.Listed.{Listed}
-use Rattle.look_mode_lists.specs.declared.Listed.the-variants.{Numbers}
 use Rattle.look_mode_lists.specs.Written.{refused, Writes}
 use Rattle.look_mode_lists.proofs.Lists.{written, unwritten, cleared-length, cleared}
 use Rattle.look_mode_lists.specs.Counts.{compiledOf, differences, countsOf, descent, countsFor, limitOf, countsWith, asked, modeStateCounts}
@@ -37,13 +37,13 @@ module _ (w : List ℕ) (count at c : ℕ) {k : ℕ} (e : k ≡ length (compiled
   pub counts-fit : {n : ℕ} → k ≤ n → 0 + length (countsOf c (numbers w count at)) ≤ n
   counts-fit h = omega (arith, counts-length c (compiledOf (numbers w count at)))
 
-  pub counts-room : (n : ℕ) {r : Listed} {new : List ℕ} → n < k → Writes r n new (refused ROOM 0) → Writes r n new (countsFor n c (numbers w count at))
+  pub counts-room : (n : ℕ) {r : Written} {new : List ℕ} → n < k → Writes r n new (refused ROOM 0) → Writes r n new (countsFor n c (numbers w count at))
   unfolding countsFor
   counts-room n h g =
       let q : ltb n (length (compiledOf (numbers w count at))) ≡ true = lt-ltb n (length (compiledOf (numbers w count at))) (omega arith) in rw q g
 
   module _ {p : ℕ} (f : p ≡ descent 0 (numbers w count at)) where
-    pub counts-order : (n : ℕ) {r : Listed} {new : List ℕ} → k ≤ n → p < count → Writes r n new (refused ORDER p)
+    pub counts-order : (n : ℕ) {r : Written} {new : List ℕ} → k ≤ n → p < count → Writes r n new (refused ORDER p)
         → Writes r n new (countsFor n c (numbers w count at))
     unfolding countsFor
     counts-order n h l g =
@@ -68,7 +68,7 @@ pub ruleset listing = (needs, unwritten, counts-fit, counts-room, counts-order, 
 
 -- The modes are found, or outside
 
-module _ (w : List ℕ) (n c : ℕ) {k : ℕ} {got : Modes} {r : Listed} {new : List ℕ} (g : got ≡ modesUpTo w k) (e : k ≡ limitOf c) where
+module _ (w : List ℕ) (n c : ℕ) {k : ℕ} {got : Modes} {r : Written} {new : List ℕ} (g : got ≡ modesUpTo w k) (e : k ≡ limitOf c) where
   pub counts-there : {at count : ℕ} → got ≡ Starts at count → Writes r n new (countsFor n c (numbers w count at)) → Writes r n new (countsWith w n c)
   unfolding countsWith ofModes
   counts-there h l = let q : modesUpTo w (limitOf c) ≡ _ = ap (modesUpTo w) (sym e) ∙ sym g ∙ h in rw q l
@@ -79,7 +79,7 @@ module _ (w : List ℕ) (n c : ℕ) {k : ℕ} {got : Modes} {r : Listed} {new : 
 
 -- The count of states is asked for, once the buffer is cleared
 
-module _ (old : List ℕ) {d : List ℕ} (z : d ≡ zeros (length old)) (w : List ℕ) {r : Listed} {new : List ℕ} {x : StateCount}
+module _ (old : List ℕ) {d : List ℕ} (z : d ≡ zeros (length old)) (w : List ℕ) {r : Written} {new : List ℕ} {x : StateCount}
     (g : countSaid x ≡ stateCount w) where
   pub counts-asked : {c : ℕ} → x ≡ States c → Writes r (length d) new (countsWith w (length d) c) → Writes r (length old) new (modeStateCounts w (length old))
   unfolding asked

@@ -9,6 +9,8 @@ use lib.ListN.{length, getD, set, length-map}
 use borrow.Author.Needs.{needs}
 use borrow.Author.Tests.{le-leb, lt-leb, lt-ltb, le-ltb}
 use Rattle.refusal.specs.Said.{ROOM, NOT-TABLE}
+use Rattle.buffer.specs.declared.Written.{Written}
+use Rattle.buffer.specs.declared.Written.the-variants.{Numbers}
 use Rattle.buffer.specs.Over.{Put, zeros}
 use Rattle.buffer.proofs.Going.{Going, going-start, going-done, going-place, going-put}
 use Rattle.look_modes.specs.declared.Modes.{Modes}
@@ -16,8 +18,6 @@ use Rattle.look_modes.specs.declared.Modes.the-variants.{Starts, Outside}
 use Rattle.look_modes.specs.Modes.{numbers, modesUpTo, ofModes}
 use Rattle.look_modes.proofs.Numbers.{numbers-open, numbers-done, numbers-length}
 use Rattle.look_modes.proofs.AllModesLaws.{modes-lie}
-use Rattle.look_mode_lists.specs.declared.Listed.{Listed}
-use Rattle.look_mode_lists.specs.declared.Listed.the-variants.{Numbers}
 use Rattle.look_mode_lists.specs.Written.{refused, Writes}
 use Rattle.look_mode_lists.specs.Flags.{flag, flagsFor, modeFlags}
 use Rattle.look_mode_lists.proofs.Lists.{written, unwritten, cleared-length, cleared}
@@ -52,7 +52,7 @@ module _ (w : List ℕ) (count at : ℕ) where
   pub flags-fit : {n : ℕ} → count ≤ n → 0 + length (map flag (numbers w count at)) ≤ n
   flags-fit h = omega (arith, length-map (numbers w count at) flag, numbers-length w count at)
 
-  pub flags-room : (n : ℕ) {r : Listed} {new : List ℕ} → n < count → Writes r n new (refused ROOM 0) → Writes r n new (flagsFor n (numbers w count at))
+  pub flags-room : (n : ℕ) {r : Written} {new : List ℕ} → n < count → Writes r n new (refused ROOM 0) → Writes r n new (flagsFor n (numbers w count at))
   flags-room n h k =
       let q : ltb n (length (numbers w count at)) ≡ true = lt-ltb n (length (numbers w count at)) (omega (arith, numbers-length w count at)) in rw q k
 
@@ -68,7 +68,7 @@ pub ruleset listing = (needs, unwritten, flags-fit, flags-room, flags-written)
 
 -- The modes are found, or outside
 
-module _ (old : List ℕ) {d : List ℕ} (z : d ≡ zeros (length old)) (w : List ℕ) {r : Listed} {new : List ℕ} {got : Modes} (g : got ≡ modesUpTo w 65535) where
+module _ (old : List ℕ) {d : List ℕ} (z : d ≡ zeros (length old)) (w : List ℕ) {r : Written} {new : List ℕ} {got : Modes} (g : got ≡ modesUpTo w 65535) where
   pub flags-there : {at count : ℕ} → got ≡ Starts at count → Writes r (length d) new (flagsFor (length d) (numbers w count at))
       → Writes r (length old) new (modeFlags w (length old))
   unfolding ofModes

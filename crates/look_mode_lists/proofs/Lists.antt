@@ -3,13 +3,12 @@ use Prim.Native.Nat.{ℕ, _≤_}
 use native.Mathlib.Omega.{arith}
 use mathlib.Core.Path.{_≡_, refl, sym, ap, _∙_}
 use mathlib.Core.List.{List, [], _∷_}
-use lib.ListN.{length, getD, length-replicate}
-use Rattle.refusal.specs.Said.{Said, ok, no}
+use lib.ListN.{length, length-replicate}
+use Rattle.refusal.specs.Said.{ok}
+use Rattle.buffer.specs.declared.Written.the-variants.{Numbers, Refused}
 use Rattle.buffer.specs.Over.{lay, Put, zeros}
 use Rattle.buffer.proofs.Overs.{lay-zeros}
-use Rattle.look_mode_lists.specs.declared.Listed.{Listed}
-use Rattle.look_mode_lists.specs.declared.Listed.the-variants.{Numbers, Refused}
-use Rattle.look_mode_lists.specs.Written.{wrote, refused, said, Writes}
+use Rattle.look_mode_lists.specs.Written.{wrote, refused, Writes}
 
 -- a list that was written over zeros
 pub written : (l d : List ℕ) {r : ℕ} {new : List ℕ} → length l ≤ length d → d ≡ zeros (length d) → Put l 0 d r new → Writes (Numbers r) (length d) new (wrote l)
@@ -29,15 +28,3 @@ module _ (old : List ℕ) {d : List ℕ} (z : d ≡ zeros (length old)) where
 
   pub cleared : d ≡ zeros (length d)
   cleared = z ∙ ap zeros (sym cleared-length)
-
--- `said` takes no two answers to one: what it says gives the answer back
-abbrev back : Said → Listed
-back (ok l) = Numbers (getD l 0 0)
-back (no n p) = Refused (record { number = n; place = p })
-
-back-said : (x : Listed) → back (said x) ≡ x
-back-said (Numbers n) = refl
-back-said (Refused r) = refl
-
-pub said-one : (x y : Listed) → said x ≡ said y → x ≡ y
-said-one x y e = sym (back-said x) ∙ ap back e ∙ back-said y

@@ -4,9 +4,9 @@ use mathlib.Core.Path.{_≡_}
 use mathlib.Core.List.{List, [], _∷_}
 use lib.ListN.{length}
 use Rattle.refusal.specs.Said.{Said, ok, no}
+use Rattle.buffer.specs.declared.Written.{Written}
+use Rattle.buffer.specs.Written.{said}
 use Rattle.buffer.specs.Over.{zeros, padded}
-use Rattle.look_mode_lists.specs.declared.Listed.{Listed}
-use Rattle.look_mode_lists.specs.declared.Listed.the-variants.{Numbers, Refused}
 
 -- a list that is written, or a refusal by number and place
 pub data Wrote : Type 0 where
@@ -14,10 +14,6 @@ pub data Wrote : Type 0 where
   refused : ℕ → ℕ → Wrote
 
 -- how many numbers the list has, or the refusal
-abbrev pub said : Listed → Said
-said (Numbers n) = ok (n ∷ [])
-said (Refused r) = no (r .number) (r .place)
-
 abbrev pub wroteSaid : Wrote → Said
 wroteSaid (wrote l) = ok (length l ∷ [])
 wroteSaid (refused n p) = no n p
@@ -28,6 +24,6 @@ leftIn n (wrote l) = padded n l
 leftIn n (refused k p) = zeros n
 
 -- the answer says it, and a buffer of n numbers holds it
-pub record Writes (r : Listed) (n : ℕ) (out : List ℕ) (g : Wrote) : Type 0 where
+pub record Writes (r : Written) (n : ℕ) (out : List ℕ) (g : Wrote) : Type 0 where
   pub says : said r ≡ wroteSaid g
   pub leaves : out ≡ leftIn n g

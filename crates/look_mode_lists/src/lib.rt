@@ -9,6 +9,7 @@ ghost use Rattle.look_modes.specs.Modes.{numbers};
 ghost use Rattle.look_mode_lists.specs.Written.{Writes};
 ghost use Rattle.look_mode_lists.specs.Flags.{flag, flagsFor, modeFlags};
 ghost use Rattle.look_mode_lists.specs.Counts.{compiledOf, countsOf, later, descent, countsFor, limitOf, countsWith, modeStateCounts, gap, step};
+use buffer::Written;
 use look_modes::Modes;
 use look_modes::StateCount;
 use refusal::NONE;
@@ -16,12 +17,6 @@ use refusal::NOT_TABLE;
 use refusal::ORDER;
 use refusal::ROOM;
 use refusal::Refusal;
-
-// How many numbers were written, or why none.
-pub enum Listed {
-    Numbers(usize),
-    Refused(Refusal),
-}
 
 // 1 for a compiled mode, else 0.
 fn flag_of(start: u32) -> u32
@@ -51,28 +46,28 @@ fn put_flags(room: &[u32], at: usize, count: u32, out: &mut [u32]) -> usize
 }
 
 // The flags of `count` modes from `at`, into a buffer of zeros.
-fn flags_into(room: &[u32], at: usize, count: u32, out: &mut [u32]) -> Listed
+fn flags_into(room: &[u32], at: usize, count: u32, out: &mut [u32]) -> Written
     requires within { ⌜ at + count ≤ length (now room) ⌝ }
     requires clear { ⌜ now out ≡ zeros (length (now out)) ⌝ }
     ensures { λ r. ⌜ Writes r (length (now (out .entry))) (now (out .exit)) (flagsFor (length (now (out .entry))) (numbers (now (room .entry)) count at)) ⌝ }
 {
     if out.len() < (count as usize) {
-        return Listed::Refused(Refusal {
+        return Written::Refused(Refusal {
             number: ROOM,
             place: 0,
         });
     }
-    Listed::Numbers(put_flags(room, at, count, out))
+    Written::Numbers(put_flags(room, at, count, out))
 }
 
 // For each mode 1 where it is compiled, else 0.
-pub fn compiled_mode_flags(room: &[u32], out: &mut [u32]) -> Listed
+pub fn compiled_mode_flags(room: &[u32], out: &mut [u32]) -> Written
     ensures { λ r. ⌜ Writes r (length (now (out .entry))) (now (out .exit)) (modeFlags (now (room .entry)) (length (now (out .entry)))) ⌝ }
 {
     buffer::clear(out);
     match look_modes::find_modes(room, 65535) {
         Modes::Starts(at, count) => flags_into(room, at, count, out),
-        Modes::Outside => Listed::Refused(Refusal {
+        Modes::Outside => Written::Refused(Refusal {
             number: NOT_TABLE,
             place: 0,
         }),
@@ -176,7 +171,7 @@ fn put_counts(room: &[u32], at: usize, count: u32, states: u32, out: &mut [u32])
 }
 
 // The state counts of `count` modes from `at`, into a buffer of zeros.
-fn counts_into(room: &[u32], at: usize, count: u32, states: u32, out: &mut [u32]) -> Listed
+fn counts_into(room: &[u32], at: usize, count: u32, states: u32, out: &mut [u32]) -> Written
     requires within { ⌜ at + count ≤ length (now room) ⌝ }
     requires clear { ⌜ now out ≡ zeros (length (now out)) ⌝ }
     ensures { λ r. ⌜ Writes r (length (now (out .entry))) (now (out .exit))
@@ -184,19 +179,19 @@ fn counts_into(room: &[u32], at: usize, count: u32, states: u32, out: &mut [u32]
 {
     let compiled = compiled_count(room, at, count);
     if out.len() < (compiled as usize) {
-        return Listed::Refused(Refusal {
+        return Written::Refused(Refusal {
             number: ROOM,
             place: 0,
         });
     }
     let place = first_descent(room, at, count);
     if place < count {
-        return Listed::Refused(Refusal {
+        return Written::Refused(Refusal {
             number: ORDER,
             place: place as usize,
         });
     }
-    Listed::Numbers(put_counts(room, at, count, states, out))
+    Written::Numbers(put_counts(room, at, count, states, out))
 }
 
 fn limit_of(states: u32) -> u32
@@ -208,13 +203,13 @@ fn limit_of(states: u32) -> u32
     65535
 }
 
-fn counts_with(room: &[u32], states: u32, out: &mut [u32]) -> Listed
+fn counts_with(room: &[u32], states: u32, out: &mut [u32]) -> Written
     requires { ⌜ now out ≡ zeros (length (now out)) ⌝ }
     ensures { λ r. ⌜ Writes r (length (now (out .entry))) (now (out .exit)) (countsWith (now (room .entry)) (length (now (out .entry))) states) ⌝ }
 {
     match look_modes::find_modes(room, limit_of(states)) {
         Modes::Starts(at, count) => counts_into(room, at, count, states, out),
-        Modes::Outside => Listed::Refused(Refusal {
+        Modes::Outside => Written::Refused(Refusal {
             number: NOT_TABLE,
             place: 0,
         }),
@@ -222,13 +217,13 @@ fn counts_with(room: &[u32], states: u32, out: &mut [u32]) -> Listed
 }
 
 // For each compiled mode how many states it has.
-pub fn mode_state_counts(room: &[u32], out: &mut [u32]) -> Listed
+pub fn mode_state_counts(room: &[u32], out: &mut [u32]) -> Written
     ensures { λ r. ⌜ Writes r (length (now (out .entry))) (now (out .exit)) (modeStateCounts (now (room .entry)) (length (now (out .entry)))) ⌝ }
 {
     buffer::clear(out);
     match look_modes::state_count(room) {
         StateCount::States(states) => counts_with(room, states, out),
-        StateCount::NotTable => Listed::Refused(Refusal {
+        StateCount::NotTable => Written::Refused(Refusal {
             number: NOT_TABLE,
             place: 0,
         }),

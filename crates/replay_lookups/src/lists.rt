@@ -1,33 +1,25 @@
 // The records about what is written into an output: how many numbers, and a check over all of the output.
-use look_mode_lists::Listed;
+use buffer::Written;
 use refusal::MAX_WORDS;
 use replay_io::check;
 use replay_io::read;
 use replay_io::tally::Replayed;
-use room_encode::Encoded;
 
 // A refusal is a length that no output has.
 const REFUSED: usize = 65535;
 
-fn listed(answer: Listed) -> usize {
+fn written(answer: Written) -> usize {
     match answer {
-        Listed::Numbers(n) => n,
-        Listed::Refused(_) => REFUSED,
-    }
-}
-
-fn encoded(answer: Encoded) -> usize {
-    match answer {
-        Encoded::Words(n) => n,
-        Encoded::Refused(_) => REFUSED,
+        Written::Numbers(n) => n,
+        Written::Refused(_) => REFUSED,
     }
 }
 
 fn write(room: &[u32], kind: u8, out: &mut [u32]) -> usize {
     match kind {
-        11 => listed(look_mode_lists::compiled_mode_flags(room, out)),
-        12 => listed(look_mode_lists::mode_state_counts(room, out)),
-        _ => encoded(room_encode::encode(room, out)),
+        11 => written(look_mode_lists::compiled_mode_flags(room, out)),
+        12 => written(look_mode_lists::mode_state_counts(room, out)),
+        _ => written(room_encode::encode(room, out)),
     }
 }
 

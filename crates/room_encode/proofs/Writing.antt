@@ -10,21 +10,22 @@ use borrow.Rule.Slice.PartMut.{midOf, putMid}
 use lib.ListN.{length, getD, take, drop, set, length-take, length-drop, drop-of-length-le, length-replicate}
 use lib.Seq.{drop-cons, drop-drop, take-all, take-add, take-length, length-take-le}
 use Rattle.refusal.specs.declared.Refusal.{Refusal}
-use Rattle.refusal.specs.Said.{Said, ok, no, NOT-TABLE, ROOM}
+use Rattle.refusal.specs.Said.{NOT-TABLE, ROOM}
 use Rattle.word_reader.specs.declared.Sections.{Sections}
 use Rattle.word_layout.specs.declared.Layout.{Layout}
 use Rattle.word_layout.specs.declared.Layout.the-variants.{Found, Unfound}
 use Rattle.word_layout.specs.Layout.{layoutOf}
 use Rattle.word_layout.proofs.Found.{order}
 use Rattle.word_layout.proofs.Found.{modes-there, states-there, runs-there, ascii-there, wide-there, accepts-there, escapes-there, continuations-there}
+use Rattle.buffer.specs.declared.Written.{Written}
+use Rattle.buffer.specs.declared.Written.the-variants.{Numbers}
+use Rattle.buffer.specs.Written.{refused}
 use Rattle.buffer.specs.Over.{over, lay, zeros, padded}
 use Rattle.buffer.proofs.Overs.{lay-none, lay-put, lay-lay, lay-zeros}
 use Rattle.word_layout.proofs.Laws.{kept}
 use Rattle.room_judge.specs.Judge.{wordsPart, tableIn}
 use Rattle.room_judge.proofs.Tables.{table-laid, found-table, unfound-table}
-use Rattle.room_encode.specs.declared.Encoded.{Encoded}
-use Rattle.room_encode.specs.declared.Encoded.the-variants.{Words, Refused}
-use Rattle.room_encode.specs.Encode.{Spans, said, refused, encodeOf, outOf}
+use Rattle.room_encode.specs.Encode.{Spans, encodeOf, outOf}
 
 -- The loop that copies a section: what is left of it, laid from here, gives what all of it gives
 
@@ -168,12 +169,12 @@ module _ (d : List ℕ) (k : ℕ) where
       unfolding outOf
       no-room-out e h l z = let i : n < length (wordsPart d) = omega (arith, count-is d h) in z ∙ (rw (found-table d h .0, lt-ltb n (length (wordsPart d)) i))
 
-      pub all-words : k ≡ getD d 0 0 → tableIn d ≡ Found s → k ≤ n → Words k ≡ encodeOf d n
+      pub all-words : k ≡ getD d 0 0 → tableIn d ≡ Found s → k ≤ n → Numbers k ≡ encodeOf d n
       unfolding encodeOf
       all-words e h l =
           let j : k ≡ length (wordsPart d) = omega (arith, count-is d h) in
           let i : length (wordsPart d) ≤ n = omega arith in
-          ap Words j ∙ (rw (found-table d h .0, le-ltb n (length (wordsPart d)) i))
+          ap Numbers j ∙ (rw (found-table d h .0, le-ltb n (length (wordsPart d)) i))
 
       pub all-out : {out new : List ℕ} → k ≡ getD d 0 0 → tableIn d ≡ Found s → k ≤ n → out ≡ zeros n → new ≡ lay 0 read out → new ≡ outOf d n
       unfolding outOf
@@ -207,22 +208,10 @@ zeros-again n {out} z = let l : length out ≡ n = ap length z ∙ length-replic
 
 -- an output that was cleared is as long as before
 module _ (d : List ℕ) (k n : ℕ) where
-  pub as-long : {r : Encoded} → r ≡ encodeOf d k → k ≡ n → r ≡ encodeOf d n
+  pub as-long : {r : Written} → r ≡ encodeOf d k → k ≡ n → r ≡ encodeOf d n
   as-long h e = h ∙ ap (encodeOf d) e
 
   pub as-long-out : {out : List ℕ} → out ≡ outOf d k → k ≡ n → out ≡ outOf d n
   as-long-out h e = h ∙ ap (outOf d) e
 
 pub ruleset judged = (needs, as-long, as-long-out, is-held, first-read, no-table, no-table-out, zeros-again)
-
--- `said` takes no two answers to one: what it says gives the answer back
-abbrev back : Said → Encoded
-back (ok l) = Words (getD l 0 0)
-back (no n p) = refused n p
-
-back-said : (x : Encoded) → back (said x) ≡ x
-back-said (Words n) = refl
-back-said (Refused r) = refl
-
-pub said-one : (x y : Encoded) → said x ≡ said y → x ≡ y
-said-one x y e = sym (back-said x) ∙ ap back e ∙ back-said y

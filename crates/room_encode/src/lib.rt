@@ -8,6 +8,7 @@ ghost use Rattle.word_layout.specs.Layout.{layoutOf};
 ghost use Rattle.buffer.specs.Over.{over, lay, zeros};
 ghost use Rattle.room_judge.specs.Judge.{tableIn};
 ghost use Rattle.room_encode.specs.Encode.{Spans, encodeOf, outOf};
+use buffer::Written;
 use refusal::HEADER_NUMBERS;
 use refusal::NOT_TABLE;
 use refusal::ROOM;
@@ -15,12 +16,6 @@ use refusal::Refusal;
 use refusal::WORD_COUNT;
 use word_layout::Layout;
 use word_reader::Sections;
-
-// How many words were written, or why none were.
-pub enum Encoded {
-    Words(usize),
-    Refused(Refusal),
-}
 
 // Writes a section from the front of its own part of the output.
 fn write_section(section: &[u32], out: &mut [u32])
@@ -82,7 +77,7 @@ fn write_sections(words: &[u32], s: Sections, out: &mut [u32])
 }
 
 // Writes the words of a room that is a table of `count` words into an output that is all zeros.
-fn write_table(count: u32, room: &[u32], s: Sections, out: &mut [u32]) -> Encoded
+fn write_table(count: u32, room: &[u32], s: Sections, out: &mut [u32]) -> Written
     requires first { ⌜ count ≡ wordCount (now room) ⌝ }
     requires found { ⌜ tableIn (now room) ≡ Found s ⌝ }
     requires cleared { ⌜ now out ≡ zeros (length (now out)) ⌝ }
@@ -91,24 +86,24 @@ fn write_table(count: u32, room: &[u32], s: Sections, out: &mut [u32]) -> Encode
 {
     let words = count as usize;
     if out.len() < words {
-        return Encoded::Refused(Refusal {
+        return Written::Refused(Refusal {
             number: ROOM,
             place: 0,
         });
     }
     write_sections(&room[HEADER_NUMBERS..HEADER_NUMBERS + words], s, out);
-    Encoded::Words(words)
+    Written::Numbers(words)
 }
 
 // Encodes the table in a room. Refused: every number of the output is 0. Accepted: the table's words, flags 0 or 1, then zeros.
-pub fn encode(room: &[u32], out: &mut [u32]) -> Encoded
+pub fn encode(room: &[u32], out: &mut [u32]) -> Written
     ensures { λ r. ⌜ (r ≡ encodeOf (now (room .entry)) (length (now (out .entry))))
         × (now (out .exit) ≡ outOf (now (room .entry)) (length (now (out .entry)))) ⌝ }
 {
     buffer::clear(out);
     match room_judge::table_in(room) {
         Layout::Found(s) => write_table(room[WORD_COUNT], room, s, out),
-        Layout::Unfound(_) => Encoded::Refused(Refusal {
+        Layout::Unfound(_) => Written::Refused(Refusal {
             number: NOT_TABLE,
             place: 0,
         }),

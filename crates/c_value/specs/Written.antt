@@ -1,7 +1,7 @@
--- The answer of encoding in C: a number of 0 and how many words there are, or the refusal's number and place. Assumes nothing.
+-- What a call that writes into a lent buffer answers in C: a number of 0 and how many numbers were written, or the refusal's number and place. Assumes nothing.
 use lib.ListN.{getD}
 use Rattle.refusal.specs.Said.{Said, ok, no}
-use Rattle.c_encode.specs.declared.CWritten.{CWritten}
+use Rattle.c_value.specs.declared.CWritten.{CWritten}
 
 -- how many numbers were written
 abbrev pub writtenInC : Said → CWritten
