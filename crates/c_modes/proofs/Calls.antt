@@ -7,12 +7,10 @@ use borrow.Author.Needs.{needs}
 use Rattle.refusal.specs.Fixed.{NONE}
 use Rattle.look_modes.specs.declared.Compiled.{Compiled}
 use Rattle.look_modes.specs.declared.Compiled.the-variants as some-are
-use Rattle.look_modes.specs.declared.StateCount.{StateCount}
-use Rattle.look_modes.specs.declared.StateCount.the-variants as count
 use Rattle.look_modes.specs.declared.Start.{Start}
 use Rattle.look_modes.specs.declared.Start.the-variants as start
 use Rattle.look_modes.specs.Start.{said}
-use Rattle.look_modes.specs.Modes.{compiledSaid, countSaid}
+use Rattle.look_modes.specs.Modes.{compiledSaid}
 use Rattle.c_value.specs.Value.{answer, refusal, valueInC}
 use Rattle.c_value.proofs.Calls.{value-in-c}
 
@@ -25,13 +23,6 @@ module _ {a : Compiled} where
   pub compiled-no : a ≡ some-are.NotTable → refusal 9 ≡ valueInC (compiledSaid a)
   compiled-no e = rw e
 
-module _ {a : StateCount} where
-  pub count-of : {n : ℕ} → a ≡ count.States n → answer n ≡ valueInC (countSaid a)
-  count-of e = rw e
-
-  pub count-no : a ≡ count.NotTable → refusal 9 ≡ valueInC (countSaid a)
-  count-no e = rw e
-
 module _ {a : Start} where
   pub start-at : {s : ℕ} → a ≡ start.At s → answer s ≡ valueInC (said a)
   start-at e = rw e
@@ -42,4 +33,4 @@ module _ {a : Start} where
   pub start-no : a ≡ start.NotTable → refusal 9 ≡ valueInC (said a)
   start-no e = rw e
 
-pub ruleset looking = (needs, value-in-c, compiled-some, compiled-no, count-of, count-no, start-at, start-nowhere, start-no)
+pub ruleset looking = (needs, value-in-c, compiled-some, compiled-no, start-at, start-nowhere, start-no)

@@ -7,7 +7,6 @@ ghost use Rattle.c_value.specs.Value.{valueInC};
 use c_value::CValue;
 use look_modes::Compiled;
 use look_modes::Start;
-use look_modes::StateCount;
 use refusal::NONE;
 use refusal::NOT_TABLE;
 
@@ -34,24 +33,12 @@ pub extern "C" fn lexer_dfa_has_compiled_modes(room: &[u32]) -> CValue
     compiled_in_c(look_modes::has_compiled_modes(room))
 }
 
-fn count_in_c(count: StateCount) -> CValue
-    ensures { λ r. ⌜ r ≡ valueInC (moding.countSaid count) ⌝ }
-{
-    match count {
-        StateCount::States(value) => CValue { value, number: 0 },
-        StateCount::NotTable => CValue {
-            value: 0,
-            number: NOT_TABLE,
-        },
-    }
-}
-
 // How many states there are.
 #[no_mangle]
 pub extern "C" fn lexer_dfa_state_count(room: &[u32]) -> CValue
     ensures { λ r. ⌜ r ≡ valueInC (moding.stateCount (now (room .entry))) ⌝ }
 {
-    count_in_c(look_modes::state_count(room))
+    c_value::value_in_c(look_modes::state_count(room))
 }
 
 fn start_in_c(start: Start) -> CValue

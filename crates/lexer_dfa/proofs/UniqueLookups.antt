@@ -72,7 +72,7 @@ pub mode-start-unique : Determines mode-start.Learnt
 mode-start-unique κs a x y e f p q = modes.said-one x y (p ∙ sym q)
 
 pub state-count-unique : Determines state-count.Learnt
-state-count-unique κs a x y e f p q = modes.count-said-one x y (p ∙ sym q)
+state-count-unique κs a x y e f p q = answers.said-one x y (p ∙ sym q)
 
 pub find-modes-unique : Determines find-modes.Learnt
 find-modes-unique κs a x y e f p q = p ∙ sym q

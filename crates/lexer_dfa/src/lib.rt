@@ -23,7 +23,6 @@ pub use look_mode_lists::compiled_mode_flags;
 pub use look_mode_lists::mode_state_counts;
 pub use look_modes::Compiled;
 pub use look_modes::Start;
-pub use look_modes::StateCount;
 pub use look_modes::has_compiled_modes;
 pub use look_modes::mode_start;
 pub use look_modes::state_count;

@@ -8,15 +8,16 @@ use lib.Dec.{ltb}
 use lib.ListN.{length, length-append}
 use borrow.Author.Needs.{needs}
 use borrow.Author.Tests.{lt-ltb, le-ltb}
-use Rattle.refusal.specs.Said.{ok, no, ROOM, NOT-TABLE, ORDER}
+use Rattle.refusal.specs.Said.{ok, no, ROOM, STATE, NOT-TABLE, ORDER}
 use Rattle.buffer.specs.declared.Written.{Written}
 use Rattle.buffer.specs.declared.Written.the-variants.{Numbers}
 use Rattle.buffer.specs.Over.{Put, zeros}
+use Rattle.room_find.specs.declared.Answer.{Answer}
+use Rattle.room_find.specs.declared.Answer.the-variants.{Number, NoState, NotTable}
+use Rattle.room_find.specs.Answer as answer
 use Rattle.look_modes.specs.declared.Modes.{Modes}
 use Rattle.look_modes.specs.declared.Modes.the-variants.{Starts, Outside}
-use Rattle.look_modes.specs.declared.StateCount.{StateCount}
-use Rattle.look_modes.specs.declared.StateCount.the-variants.{States, NotTable}
-use Rattle.look_modes.specs.Modes.{countSaid, stateCount, numbers, modesUpTo, ofModes}
+use Rattle.look_modes.specs.Modes.{stateCount, numbers, modesUpTo, ofModes}
 use Rattle.look_modes.proofs.Numbers.{numbers-length}
 use Rattle.look_modes.proofs.AllModesLaws.{modes-lie}
 use Rattle.look_mode_lists.specs.Written.{refused, Writes}
@@ -79,14 +80,18 @@ module _ (w : List ℕ) (n c : ℕ) {k : ℕ} {got : Modes} {r : Written} {new :
 
 -- The count of states is asked for, once the buffer is cleared
 
-module _ (old : List ℕ) {d : List ℕ} (z : d ≡ zeros (length old)) (w : List ℕ) {r : Written} {new : List ℕ} {x : StateCount}
-    (g : countSaid x ≡ stateCount w) where
-  pub counts-asked : {c : ℕ} → x ≡ States c → Writes r (length d) new (countsWith w (length d) c) → Writes r (length old) new (modeStateCounts w (length old))
+module _ (old : List ℕ) {d : List ℕ} (z : d ≡ zeros (length old)) (w : List ℕ) {r : Written} {new : List ℕ} {x : Answer}
+    (g : answer.said x ≡ stateCount w) where
+  pub counts-asked : {c : ℕ} → x ≡ Number c → Writes r (length d) new (countsWith w (length d) c) → Writes r (length old) new (modeStateCounts w (length old))
   unfolding asked
-  counts-asked e l = let q : stateCount w ≡ ok (_ ∷ []) = sym g ∙ ap countSaid e in rw (q, ← cleared-length old z) l
+  counts-asked e l = let q : stateCount w ≡ ok (_ ∷ []) = sym g ∙ ap answer.said e in rw (q, ← cleared-length old z) l
 
-  pub counts-unasked : x ≡ NotTable → Writes r (length d) new (refused NOT-TABLE 0) → Writes r (length old) new (modeStateCounts w (length old))
+  pub counts-no-state : x ≡ NoState → Writes r (length d) new (refused STATE 0) → Writes r (length old) new (modeStateCounts w (length old))
   unfolding asked
-  counts-unasked e l = let q : stateCount w ≡ no NOT-TABLE 0 = sym g ∙ ap countSaid e in rw (q, ← cleared-length old z) l
+  counts-no-state e l = let q : stateCount w ≡ no STATE 0 = sym g ∙ ap answer.said e in rw (q, ← cleared-length old z) l
 
-pub ruleset answers = (needs, modes-lie, unwritten, counts-there, counts-outside, cleared, counts-asked, counts-unasked)
+  pub counts-no-table : x ≡ NotTable → Writes r (length d) new (refused NOT-TABLE 0) → Writes r (length old) new (modeStateCounts w (length old))
+  unfolding asked
+  counts-no-table e l = let q : stateCount w ≡ no NOT-TABLE 0 = sym g ∙ ap answer.said e in rw (q, ← cleared-length old z) l
+
+pub ruleset answers = (needs, modes-lie, unwritten, counts-there, counts-outside, cleared, counts-asked, counts-no-state, counts-no-table)

@@ -11,12 +11,13 @@ ghost use Rattle.look_mode_lists.specs.Flags.{flag, flagsFor, modeFlags}
 ghost use Rattle.look_mode_lists.specs.Counts.{compiledOf, countsOf, later, descent, countsFor, limitOf, countsWith, modeStateCounts, gap, step};
 use buffer::Written;
 use look_modes::Modes;
-use look_modes::StateCount;
 use refusal::NONE;
 use refusal::NOT_TABLE;
 use refusal::ORDER;
 use refusal::ROOM;
 use refusal::Refusal;
+use refusal::STATE;
+use room_find::Answer;
 
 // 1 for a compiled mode, else 0.
 fn flag_of(start: u32) -> u32
@@ -216,14 +217,18 @@ fn counts_with(room: &[u32], states: u32, out: &mut [u32]) -> Written
     }
 }
 
-// For each compiled mode how many states it has.
+// For each compiled mode how many states it has. What the count of the states refuses with is handed on.
 pub fn mode_state_counts(room: &[u32], out: &mut [u32]) -> Written
     ensures { λ r. ⌜ Writes r (length (now (out .entry))) (now (out .exit)) (modeStateCounts (now (room .entry)) (length (now (out .entry)))) ⌝ }
 {
     buffer::clear(out);
     match look_modes::state_count(room) {
-        StateCount::States(states) => counts_with(room, states, out),
-        StateCount::NotTable => Written::Refused(Refusal {
+        Answer::Number(states) => counts_with(room, states, out),
+        Answer::NoState => Written::Refused(Refusal {
+            number: STATE,
+            place: 0,
+        }),
+        Answer::NotTable => Written::Refused(Refusal {
             number: NOT_TABLE,
             place: 0,
         }),

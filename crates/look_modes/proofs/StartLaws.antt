@@ -21,13 +21,10 @@ use Rattle.look_modes.specs.declared.Modes.the-variants.{Starts, Outside
 use Rattle.look_modes.specs.declared.Start.{Start}
 use Rattle.look_modes.specs.declared.Start.the-variants as start
 use Rattle.look_modes.specs.declared.Start.the-variants.{At, Nowhere}
-use Rattle.look_modes.specs.declared.StateCount.{StateCount}
-use Rattle.look_modes.specs.declared.StateCount.the-variants as count
-use Rattle.look_modes.specs.declared.StateCount.the-variants.{States}
 use Rattle.look_modes.specs.declared.Compiled.{Compiled}
 use Rattle.look_modes.specs.declared.Compiled.the-variants as some-are
 use Rattle.look_modes.specs.Start.{said, modeAt}
-use Rattle.look_modes.specs.Modes.{countSaid, modesSaid, compiledSaid}
+use Rattle.look_modes.specs.Modes.{modesSaid, compiledSaid}
 
 -- by the tests on the way
 pub ruleset cases = (needs, le-leb, lt-leb, lt-ltb, le-ltb, eq-eqb, ne-eqb)
@@ -66,17 +63,6 @@ start-back start.NotTable = refl
 
 pub said-one : (x y : Start) → said x ≡ said y → x ≡ y
 said-one x y e = sym (start-back x) ∙ ap startBack e ∙ start-back y
-
-abbrev countBack : Said → StateCount
-countBack (ok l) = States (getD l 0 0)
-countBack (no n p) = count.NotTable
-
-count-back : (x : StateCount) → countBack (countSaid x) ≡ x
-count-back (States n) = refl
-count-back count.NotTable = refl
-
-pub count-said-one : (x y : StateCount) → countSaid x ≡ countSaid y → x ≡ y
-count-said-one x y e = sym (count-back x) ∙ ap countBack e ∙ count-back y
 
 abbrev compiledBack : Said → Compiled
 compiledBack (ok l) = some-are.Modes (eqb (getD l 0 0) 1)

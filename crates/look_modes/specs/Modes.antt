@@ -12,18 +12,11 @@ use Rattle.refusal.specs.Header.{MODES-START, STATES-START, RUNS-START}
 use Rattle.room_find.specs.Room.{spanned, headed}
 use Rattle.look_modes.specs.declared.Modes.{Modes}
 use Rattle.look_modes.specs.declared.Modes.the-variants.{Starts, Outside}
-use Rattle.look_modes.specs.declared.StateCount.{StateCount}
-use Rattle.look_modes.specs.declared.StateCount.the-variants as count
 use Rattle.look_modes.specs.declared.Compiled.{Compiled}
 use Rattle.look_modes.specs.declared.Compiled.the-variants as some-are
 use Rattle.look_modes.specs.Start.{compiled}
 
--- how many states there are, or a refusal
-abbrev pub countSaid : StateCount → Said
-countSaid (count.States n) = ok (n ∷ [])
-countSaid count.NotTable = no NOT-TABLE 0
-
--- the count is only answered, so that the states need not be there
+-- how many states there are: the count is only answered, so that the states need not be there
 abbrev pub countIn : List ℕ → ℕ → ℕ → Said
 countIn w s e = spanned w s e (ok (getD w s 0 ∷ [])) (no NOT-TABLE 0)
 

@@ -1,7 +1,8 @@
 // Where a mode starts, how many states there are, and whether any mode is compiled. The room may be of any length and hold any numbers.
 ghost use mathlib.Core.Path.{_≡_};
+ghost use Rattle.room_find.specs.Answer as answer;
 ghost use Rattle.look_modes.specs.Start.{said, started, modeIn, modeAt, modeStart, compiled};
-ghost use Rattle.look_modes.specs.Modes.{countSaid, countIn, stateCount, numbers, upTo, modesWith, modesIn, modesUpTo, compiledSaid, hasCompiledModes};
+ghost use Rattle.look_modes.specs.Modes.{countIn, stateCount, numbers, upTo, modesWith, modesIn, modesUpTo, compiledSaid, hasCompiledModes};
 ghost use Prim.Native.Nat.{_+_, _≤_};
 ghost use lib.ListN.{length};
 ghost use Rattle.refusal.specs.Lists.{every, some};
@@ -10,17 +11,13 @@ use refusal::MODES_START;
 use refusal::NONE;
 use refusal::RUNS_START;
 use refusal::STATES_START;
+use room_find::Answer;
 use room_find::Found;
 
 // A start state, or none; or no table.
 pub enum Start {
     At(u16),
     Nowhere,
-    NotTable,
-}
-
-pub enum StateCount {
-    States(u32),
     NotTable,
 }
 
@@ -83,25 +80,25 @@ pub fn mode_start(room: &[u32], mode: u32) -> Start
     }
 }
 
-fn count_in(room: &[u32], start: u32, end: u32) -> StateCount
-    ensures { λ r. ⌜ countSaid r ≡ countIn (now (room .entry)) start end ⌝ }
+fn count_in(room: &[u32], start: u32, end: u32) -> Answer
+    ensures { λ r. ⌜ answer.said r ≡ countIn (now (room .entry)) start end ⌝ }
 {
     if start < end {
         if (end as usize) <= room.len() {
-            return StateCount::States(room[start as usize]);
+            return Answer::Number(room[start as usize]);
         }
     }
-    StateCount::NotTable
+    Answer::NotTable
 }
 
 // How many states there are.
-pub fn state_count(room: &[u32]) -> StateCount
-    ensures { λ r. ⌜ countSaid r ≡ stateCount (now (room .entry)) ⌝ }
+pub fn state_count(room: &[u32]) -> Answer
+    ensures { λ r. ⌜ answer.said r ≡ stateCount (now (room .entry)) ⌝ }
 {
     if CONTINUATIONS_START < room.len() {
         return count_in(room, room[STATES_START], room[RUNS_START]);
     }
-    StateCount::NotTable
+    Answer::NotTable
 }
 
 fn up_to(limit: u32, x: u32) -> bool

@@ -1,6 +1,5 @@
 // The records whose answer is a number, and those of a scan.
 use look_modes::Start;
-use look_modes::StateCount;
 use look_runs::StateScan;
 use replay_io::read;
 use replay_io::tally::Replayed;
@@ -20,13 +19,6 @@ fn start(answer: Start) -> u32 {
     }
 }
 
-fn count(answer: StateCount) -> u32 {
-    match answer {
-        StateCount::States(n) => n,
-        StateCount::NotTable => REFUSED,
-    }
-}
-
 // NONE is the answer's own number for no accept and for no continuation.
 fn told(answer: Answer) -> u32 {
     match answer {
@@ -40,7 +32,7 @@ fn told(answer: Answer) -> u32 {
 fn looked_up(room: &[u32], kind: u8, state: u16, symbol: u32, ascii: u8) -> u32 {
     match kind {
         1 => start(look_modes::mode_start(room, symbol)),
-        2 => count(look_modes::state_count(room)),
+        2 => told(look_modes::state_count(room)),
         3 => told(look_accepts::accept(room, state)),
         4 => told(look_targets::ascii_target(room, state, ascii)),
         5 => told(look_targets::char_target(room, state, symbol)),

@@ -15,4 +15,7 @@ mode-state-counts-spec =
     (λ c. search answers)
     (λ c. search answers)
     (λ c. search answers)
+    (λ c. search answers)
+    (λ c. search answers)
+    (λ c. search answers)
     (λ c. search answers))
