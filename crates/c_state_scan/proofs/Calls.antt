@@ -6,9 +6,9 @@ use borrow.Author.Needs.{needs}
 use Rattle.refusal.specs.declared.Refusal.{Refusal}
 use Rattle.refusal.specs.Said.{Said}
 use Rattle.run_shape.specs.Scan.{bit}
-use Rattle.look_runs.specs.declared.StateScan.{StateScan}
-use Rattle.look_runs.specs.declared.StateScan.the-variants.{NoRun, Skipped, NoAnswer}
-use Rattle.look_runs.specs.StateRun.{said}
+use Rattle.look_scan.specs.declared.StateScan.{StateScan}
+use Rattle.look_scan.specs.declared.StateScan.the-variants.{NoRun, Skipped, NoAnswer}
+use Rattle.look_scan.specs.StateScan.{said}
 use Rattle.c_state_scan.specs.declared.CStateScan.{CStateScan}
 use Rattle.c_state_scan.specs.Answers.{noScan, stateScanInC}
 

@@ -3,9 +3,10 @@
 ghost use mathlib.Core.Path.{_≡_};
 ghost use Prim.Native.Nat.{_+_};
 ghost use Rattle.run_shape.specs.Scan.{bit};
-ghost use Rattle.look_runs.specs.StateRun as scanning;
+ghost use Rattle.look_runs.specs.StateRun.{asciiRun, scannedBy};
+ghost use Rattle.look_scan.specs.StateScan.{said};
 ghost use Rattle.c_state_scan.specs.Answers.{stateScanInC};
-use look_runs::StateScan;
+use look_scan::StateScan;
 
 // How far a state's run went, in two registers: `stop` is 0 where there is no run, 1 where the input ended and 2 where an exit was found.
 #[repr(C)]
@@ -22,7 +23,7 @@ fn stop(found: bool) -> u32
 }
 
 fn state_scan_in_c(scan: StateScan) -> CStateScan
-    ensures { λ r. ⌜ r ≡ stateScanInC (scanning.said scan) ⌝ }
+    ensures { λ r. ⌜ r ≡ stateScanInC (said scan) ⌝ }
 {
     match scan {
         StateScan::NoRun => CStateScan {
@@ -46,7 +47,7 @@ fn state_scan_in_c(scan: StateScan) -> CStateScan
 // The scan of the input by the run of a state.
 #[no_mangle]
 pub extern "C" fn lexer_dfa_scan_ascii_run(room: &[u32], state: u16, input: &[u8]) -> CStateScan
-    ensures { λ r. ⌜ r ≡ stateScanInC (scanning.scannedBy (scanning.asciiRun (now (room .entry)) state) (now (input .entry))) ⌝ }
+    ensures { λ r. ⌜ r ≡ stateScanInC (scannedBy (asciiRun (now (room .entry)) state) (now (input .entry))) ⌝ }
 {
     state_scan_in_c(look_scan::scan_ascii_run_length(room, state, input))
 }

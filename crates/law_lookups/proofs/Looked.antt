@@ -13,13 +13,14 @@ use Rattle.refusal.specs.Said.{Said, ok, no, STATE, NOT-TABLE}
 use Rattle.refusal.specs.Fixed.{NONE}
 use Rattle.refusal.specs.Lists.{pick, each}
 use Rattle.room_find.specs.declared.Found.the-variants as place
-use Rattle.room_find.specs.declared.Hit.the-variants as hit
+use Rattle.look_row.specs.declared.Hit.the-variants as hit
 use Rattle.refusal.specs.Header.{ESCAPES-START}
 use Rattle.room_find.specs.Room as rooms
 use Rattle.room_find.specs.Room.{listedAt, stateAt, follow}
-use Rattle.room_find.specs.Search.{found, searched, given}
-use Rattle.room_find.proofs.There.{record-there, record-absent, state-there, state-absent, row-searched}
+use Rattle.room_find.proofs.There.{record-there, record-absent, state-there, state-absent}
 use Rattle.law_tables.specs.Table.{Table, State, Range, Fields, All, Start, StateFields, AsciiFields, RangeFields, counted}
+use Rattle.look_row.specs.Search.{found, searched, given}
+use Rattle.look_row.proofs.Searches.{row-searched}
 use Rattle.law_tables.specs.Table.{modeWords, stateWords, asciiWords, rangeWords, wideWords, escapeWords}
 use Rattle.law_tables.specs.Rules.{Rules, Good, NoneOr, targets, absent, rowOf}
 use Rattle.law_tables.proofs.Codec.{At, on, at-head}

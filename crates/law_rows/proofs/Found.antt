@@ -7,9 +7,9 @@ use mathlib.Core.List.{List, [], _∷_, _++_}
 use lib.Dec.{leb}
 use lib.ListN.{length, getD}
 use Rattle.refusal.specs.Lists.{pick, each}
-use Rattle.room_find.specs.declared.Hit.the-variants as hit
-use Rattle.room_find.specs.Search.{found, given}
 use Rattle.law_tables.specs.Table.{rangeWords}
+use Rattle.look_row.specs.declared.Hit.the-variants as hit
+use Rattle.look_row.specs.Search.{found, given}
 use Rattle.law_tables.proofs.Codec.{At, on, at-head}
 use Rattle.law_lookups.specs.Looks.{goalAt}
 use Rattle.law_rows.specs.Row.{Row, numbers}

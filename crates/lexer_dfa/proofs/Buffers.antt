@@ -12,7 +12,7 @@ use lib.Seq.{take-at}
 use borrow.Author.Tests.{lt-ltb, le-ltb, le-leb, lt-leb}
 use Rattle.refusal.specs.Lists.{pick}
 use Rattle.buffer.specs.Over.{zeros, padded}
-use Rattle.room_find.specs.Search.{found, given}
+use Rattle.look_row.specs.Search.{found, given}
 use Rattle.law_tables.proofs.Codec.{At, start, same, on, to, at-head}
 use Rattle.law_lookups.specs.Looks.{goalAt}
 use Rattle.law_lookups.proofs.Stands.{at-number}

@@ -11,7 +11,7 @@ use Rattle.run_shape.specs.Shape.{held}
 use Rattle.run_shape.specs.Words.{orField, shortRun, readAt}
 use Rattle.run_shape.specs.Scan.{stops, scanSaid}
 use Rattle.room_find.specs.Room.{recordIn, listedIn, pastLists, listedAt, stateAt, follow}
-use Rattle.room_find.specs.Search.{found, searched, given}
+use Rattle.look_row.specs.Search.{found, searched, given}
 use Rattle.look_modes.specs.Start.{modeAt, modeStart}
 use Rattle.look_modes.specs.Modes.{stateCount, numbers, modesUpTo, ofModes, hasCompiledModes}
 use Rattle.look_mode_lists.specs.Written.{wrote, refused}

@@ -40,7 +40,7 @@ use Rattle.look_runs.proofs.find_run.Reads as find-run
 use Rattle.look_runs.proofs.ascii_run.Reads as ascii-run
 use Rattle.look_scan.proofs.scan_ascii_run.Reads as scan-ascii-run
 use Rattle.look_scan.proofs.scan_ascii_run_length.Reads as scan-ascii-run-length
-use Rattle.look_runs.proofs.Laws as state-run
+use Rattle.look_scan.proofs.Answers as state-scan
 use Rattle.run_shape.proofs.Answers.{given}
 use Rattle.law_unique.specs.Unique.{Determines, DeterminesPart, DeterminesBoth}
 
@@ -153,7 +153,7 @@ pub scan-ascii-run-unique : DeterminesPart scan-ascii-run.Learnt
 scan-ascii-run-unique κs a x y e f p q = (p .1 ∙ sym (q .1), p .0 ∙ sym (q .0))
 
 pub scan-ascii-run-length-unique : Determines scan-ascii-run-length.Learnt
-scan-ascii-run-length-unique κs a x y e f p q = state-run.said-one x y (p ∙ sym q)
+scan-ascii-run-length-unique κs a x y e f p q = state-scan.said-one x y (p ∙ sym q)
 
 -- mode_flags and mode_counts
 

@@ -10,7 +10,7 @@ use contract.Lifetimes.{Lfts}
 use denote.Ref.{RefT}
 use Rattle.refusal.specs.Lists.{pick}
 use Rattle.refusal.specs.Fixed.{NONE}
-use Rattle.room_find.specs.Search.{found, given}
+use Rattle.look_row.specs.Search.{found, given}
 use Rattle.law_tables.specs.Table.{Table}
 use Rattle.law_tables.specs.Rules.{Searchable, rowOf}
 use Rattle.law_lookups.specs.Looks.{stateOf, escapeOf, ofState, charTargetOf, charContinuationOf}

@@ -20,8 +20,8 @@ use Rattle.run_shape.specs.declared.RunAnswer.{RunAnswer}
 use Rattle.run_shape.specs.declared.Scanned.{Scanned}
 use Rattle.run_shape.specs.declared.Scanned.the-variants.{Skipped}
 use Rattle.run_shape.specs.Shape.{Shape, none, any, until, ranges}
-use Rattle.look_runs.specs.declared.StateScan.{StateScan}
-use Rattle.look_runs.specs.declared.StateScan.the-variants as state
+use Rattle.look_scan.specs.declared.StateScan.{StateScan}
+use Rattle.look_scan.specs.declared.StateScan.the-variants as state
 use Rattle.run_classify.proofs.classify.Reads as classify
 use Rattle.run_scan.proofs.scan.Reads as scan
 use Rattle.run_scan.proofs.scan_length.Reads as scan-length

@@ -6,7 +6,7 @@ use Rattle.refusal.specs.Said.{Said, ok, no, NOT-TABLE}
 use Rattle.refusal.specs.Fixed.{NONE}
 use Rattle.refusal.specs.Header.{ESCAPES-START}
 use Rattle.room_find.specs.Room.{endOf, listedAt, follow, ofState}
-use Rattle.room_find.specs.Search.{searched, given}
+use Rattle.look_row.specs.Search.{searched, given}
 
 -- a state's escape row has its number; where there is none, the room is no table
 abbrev pub inRow : List ℕ → ℕ → (ℕ → Said) → Said

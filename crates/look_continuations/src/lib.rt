@@ -2,12 +2,12 @@
 ghost use mathlib.Core.Path.{_≡_};
 ghost use Rattle.room_find.specs.Answer.{said};
 ghost use Rattle.look_continuations.specs.Continuation.{searchRow, charInRow, charContinuation, eofInRow, eofContinuation};
+use look_row::Hit;
 use refusal::CONTINUATIONS_START;
 use refusal::ESCAPES_START;
 use refusal::NONE;
 use room_find::Answer;
 use room_find::Found;
-use room_find::Hit;
 
 // The continuation in the escape row whose length stands at `at`.
 fn search_row(room: &[u32], at: usize, end: u32, symbol: u32) -> Answer

@@ -1,5 +1,5 @@
 -- "equal to the search over numbers", by the contracts of the two calls alone: what `wide_target` answers for a row is the target of what
--- `row_search::search_row` answers on any room in which the row's numbers stand. Assumes nothing.
+-- `search_row` answers on any room in which the row's numbers stand. Assumes nothing.
 use Prim.Native.Nat.{ℕ}
 use mathlib.Core.Path.{_≡_, sym, ap, _∙_}
 use mathlib.Core.List.{List}
@@ -13,7 +13,7 @@ use contract.Lifetimes.{Lfts}
 use contract.Monad.{Fun, fact, fact-mono}
 use denote.Ref.{RefT}
 use denote.Triple.Clauses.{AtExit}
-use Rattle.room_find.specs.declared.Hit.{Hit}
+use Rattle.look_row.specs.declared.Hit.{Hit}
 use Rattle.look_row.proofs.search_row.Reads as search-row
 use Rattle.look_row.specs.declared.WideRange.{WideRange}
 use Rattle.look_row.specs.Ranges.{targetOf, Stands}

@@ -7,13 +7,13 @@ use mathlib.Core.Bool.{Bool, true, false}
 use mathlib.Core.List.{List, [], _∷_}
 use lib.Dec.{leb}
 use lib.ListN.{length, getD, drop}
-use borrow.Author.Tests.{le-leb, lt-ltb}
 use Rattle.refusal.specs.Lists.{pick}
-use Rattle.room_find.specs.declared.Hit.{Hit}
-use Rattle.room_find.specs.declared.Hit.the-variants.{Third, Gap}
-use Rattle.room_find.specs.Search.{found, given, searched}
+use Rattle.look_row.specs.declared.Hit.{Hit}
+use Rattle.look_row.specs.declared.Hit.the-variants.{Third, Gap}
+use Rattle.look_row.specs.Search.{found, given, searched}
 use Rattle.look_row.specs.declared.WideRange.{WideRange}
 use Rattle.look_row.specs.Ranges.{numbers, targetOf, targetIn, Stands}
+use Rattle.look_row.proofs.Searches.{row-searched}
 
 -- a search reads the row's numbers and no others
 pub found-same : (w v : List ℕ) (x n at bt : ℕ) → ((j : ℕ) → j < n * 3 → getD w (at + j) 0 ≡ getD v (bt + j) 0) → found w x n at ≡ found v x n bt
@@ -58,11 +58,11 @@ no-range x = refl
 
 -- "equal to the search over numbers": on a room in which the row stands, the search of the room gives what the search of the records gives
 pub searched-same : (w : List ℕ) (at e x : ℕ) (rs : List WideRange) → Stands w at e rs → targetOf (searched w at e x) ≡ targetIn rs x
-unfolding searched targetIn
+unfolding targetIn
 searched-same w at e x rs s =
     let a : at < e = omega (arith, s .whole) in
-    let b : length rs * 3 + at < e = s .whole in
-    rw (le-leb e (length w) (s .inside), lt-ltb at e a, s .counted, lt-ltb (length rs * 3 + at) e b)
+    let b : getD w at 0 * 3 + at < e = rw (s .counted) (s .whole) in
+    rw (row-searched w at e x (s .inside) a b, s .counted)
     (ap targetOf (found-same w (numbers rs) x (length rs) (at + 1) 0 (λ j l. let f : 0 + j ≡ j = omega arith in rw f (s .same j l))))
 
 -- every row stands somewhere: behind its own length

@@ -1,3 +1,4 @@
+pub mod Hits
 pub mod Searches
 pub mod Laws
 pub mod Equal

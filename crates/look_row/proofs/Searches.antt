@@ -1,16 +1,16 @@
 -- The laws of a search: the ranges that are left, from here, give what all of them give. Assumes nothing.
-use Prim.Native.Nat.{ℕ, zero, suc, _+_, _-_, _<_, _≤_}
+use Prim.Native.Nat.{ℕ, zero, suc, _+_, _*_, _-_, _<_, _≤_}
 use native.Mathlib.Nat.{not-suc-le-zero}
 use native.Mathlib.Numerals.{sub-one}
 use native.Mathlib.Omega.{arith}
 use mathlib.Core.Path.{_≡_}
 use mathlib.Core.List.{List}
-use lib.ListN.{getD}
+use lib.ListN.{length, getD}
 use borrow.Author.Needs.{needs}
-use borrow.Author.Tests.{le-leb, lt-leb}
-use Rattle.room_find.specs.declared.Hit.{Hit}
-use Rattle.room_find.specs.declared.Hit.the-variants.{Third, Gap}
-use Rattle.room_find.specs.Search.{found}
+use borrow.Author.Tests.{le-leb, lt-leb, lt-ltb}
+use Rattle.look_row.specs.declared.Hit.{Hit}
+use Rattle.look_row.specs.declared.Hit.the-variants.{Third, Gap}
+use Rattle.look_row.specs.Search.{found, searched}
 
 module _ (w : List ℕ) (x : ℕ) where
   -- the first range's high reaches x: its low does too, or passes it
@@ -51,6 +51,11 @@ module _ (w : List ℕ) (x : ℕ) where
       let i₃ = past (left - 1 - 1) (here + 3 + 3) (omega arith) (rw p₂ c) i₂ in
       let i₄ = past (left - 1 - 1 - 1) (here + 3 + 3 + 3) (omega arith) (rw p₃ d) i₃ in
       rw (l₄, p₄) at i₄
+
+-- a row that lies in its section is searched
+pub row-searched : (w : List ℕ) (at e x : ℕ) → e ≤ length w → at < e → getD w at 0 * 3 + at < e → searched w at e x ≡ found w x (getD w at 0) (at + 1)
+unfolding searched
+row-searched w at e x k h l = simp (le-leb _ _ k, lt-ltb _ _ h, lt-ltb _ _ l)
 
 -- what the two loops are left with
 pub ruleset searching = (needs, hit, gap, past, over)

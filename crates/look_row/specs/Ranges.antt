@@ -1,10 +1,10 @@
--- A wide row as a list of range records, and its search: that of the row's numbers (room_read/specs/Search). Assumes nothing.
+-- A wide row as a list of range records, and its search: that of the row's numbers (specs/Search). Assumes nothing.
 use Prim.Native.Nat.{ℕ, _+_, _*_, _<_, _≤_}
 use mathlib.Core.Path.{_≡_}
 use mathlib.Core.List.{List, [], _∷_}
 use lib.ListN.{length, getD}
-use Rattle.room_find.specs.declared.Hit.{Hit}
-use Rattle.room_find.specs.Search.{found, given}
+use Rattle.look_row.specs.declared.Hit.{Hit}
+use Rattle.look_row.specs.Search.{found, given}
 use Rattle.look_row.specs.declared.WideRange.{WideRange}
 
 -- "length, then low, high, target": the numbers of a row behind its length

@@ -3,10 +3,16 @@
 ghost use mathlib.Core.Path.{_≡_};
 ghost use Prim.Native.Nat.{_≤_, _<_, _+_, _*_};
 ghost use lib.ListN.{length};
-ghost use Rattle.room_find.specs.Search.{found, counted, searched};
+ghost use Rattle.look_row.specs.Search.{found, counted, searched};
 ghost use Rattle.look_row.specs.Ranges.{targetIn};
 use refusal::DEAD_STATE;
-use room_find::Hit;
+
+// The third number of the range that was chosen, or none.
+pub enum Hit {
+    Third(u32),
+    Gap,
+    Outside,
+}
 
 // What is left of a search.
 struct Rest {

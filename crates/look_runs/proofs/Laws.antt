@@ -1,30 +1,23 @@
--- The laws of a state's run: where it lies, what its reading gives, and that what is said of a scan takes no two answers to one. Assumes
--- nothing.
+-- The laws of a state's run: where it lies, and what its reading gives. Assumes nothing.
 use Prim.Native.Nat.{ℕ, _≤_}
 use native.Mathlib.Omega.{arith}
-use mathlib.Core.Path.{_≡_, refl, sym, ap, _∙_}
-use mathlib.Core.Bool.{Bool, true, false}
-use mathlib.Core.List.{List, [], _∷_}
-use lib.Dec.{eqb}
-use lib.ListN.{length, getD, take, length-take}
+use mathlib.Core.Path.{_≡_, refl, sym, _∙_}
+use mathlib.Core.List.{List}
+use lib.ListN.{length, take, length-take}
 use borrow.Author.Needs.{needs}
 use Rattle.refusal.specs.declared.Refusal.{Refusal}
-use Rattle.refusal.specs.Said.{Said, ok, no}
 use Rattle.run_ranges.specs.declared.AsciiRanges.{AsciiRanges}
 use Rattle.run_shape.specs.declared.Answered.{Answered}
 use Rattle.run_shape.specs.declared.Answered.the-variants.{Refused}
 use Rattle.run_shape.specs.declared.RunAnswer.{RunAnswer}
 use Rattle.run_shape.specs.Shape.{Got, run, refused, answered, Gives}
 use Rattle.run_shape.specs.Words.{readAt}
-use Rattle.run_shape.specs.Scan.{bit}
 use Rattle.run_shape.proofs.Answers.{gives, given}
 use Rattle.room_find.specs.declared.Found.{Found}
 use Rattle.room_find.specs.declared.Found.the-variants.{At, Absent, Outside}
 use Rattle.room_find.specs.Room.{follow}
 use Rattle.room_find.proofs.Records.{oflist}
-use Rattle.look_runs.specs.declared.StateScan.{StateScan}
-use Rattle.look_runs.specs.declared.StateScan.the-variants.{NoRun, Skipped, NoAnswer}
-use Rattle.look_runs.specs.StateRun.{notTable, judged, gotOf, runIn, said}
+use Rattle.look_runs.specs.StateRun.{notTable, judged, gotOf, runIn}
 
 -- going on from what was found
 module _ (x : Found) (f : ℕ → Got) (a o : Got) {got : Found} {r : RunAnswer} where
@@ -65,24 +58,3 @@ pub refuses : (a : Answered) (rs : AsciiRanges) {x : Refusal} {r : RunAnswer} �
 refuses a rs e h = rw e h
 
 pub ruleset reading = (needs, taken, judges, refuses, gives)
-
--- `said` takes no two answers to one: what it says gives the answer back
-abbrev listBack : List ℕ → StateScan
-listBack [] = NoRun
-listBack (n ∷ l) = Skipped n (eqb (getD l 0 0) 1)
-
-abbrev back : Said → StateScan
-back (ok l) = listBack l
-back (no n p) = NoAnswer (record { number = n; place = p })
-
-bit-back : (b : Bool) → eqb (bit b) 1 ≡ b
-bit-back true = refl
-bit-back false = refl
-
-back-said : (x : StateScan) → back (said x) ≡ x
-back-said NoRun = refl
-back-said (Skipped n b) = rw (bit-back b)
-back-said (NoAnswer r) = refl
-
-pub said-one : (x y : StateScan) → said x ≡ said y → x ≡ y
-said-one x y e = sym (back-said x) ∙ ap back e ∙ back-said y

@@ -21,13 +21,6 @@ pub fn find_run(room: &[u32], i: u32) -> Found
     room_find::find_listed(room, RUNS_START, i)
 }
 
-// What a scan by a state's run answers: no run; how far it went, and whether an exit stopped it; or why there is no answer.
-pub enum StateScan {
-    NoRun,
-    Skipped { bytes: usize, found_exit: bool },
-    NoAnswer(Refusal),
-}
-
 fn refuse(number: u32) -> RunAnswer
     ensures { λ r. ⌜ Gives r (refused number 0) ⌝ }
 {

@@ -1,14 +1,14 @@
 // The scan by a state's run, as the front part of the input itself, and by its length. The room may be of any length and hold any numbers.
 ghost use mathlib.Core.Path.{_≡_};
 ghost use lib.ListN.{take, length};
-ghost use Rattle.look_runs.specs.StateRun.{asciiRun, skippedBy, judged, runIn, runOf, said, scannedBy};
+ghost use Rattle.look_runs.specs.StateRun.{asciiRun, skippedBy, judged, runIn, runOf, scannedBy};
+ghost use Rattle.look_scan.specs.StateScan.{said};
 ghost use Prim.Native.Nat.{_≤_};
 ghost use Rattle.run_shape.specs.Scan as scan;
 ghost use Rattle.run_shape.specs.Shape.{shapeOf};
 ghost use Rattle.run_shape.specs.Words.{readAt, shortRun, kindOf, bytesOf, rangesRun};
 ghost use Rattle.run_ranges.specs.Ranges.{rangesOfRun};
 ghost use Rattle.refusal.specs.Said.{no};
-use look_runs::StateScan;
 use refusal::ASCII_START;
 use refusal::NOT_TABLE;
 use refusal::Refusal;
@@ -20,6 +20,13 @@ use run_shape::Answered;
 use run_shape::AsciiRun;
 use run_shape::Run;
 use run_shape::Scanned;
+
+// What a scan by a state's run answers: no run; how far it went, and whether an exit stopped it; or why there is no answer.
+pub enum StateScan {
+    NoRun,
+    Skipped { bytes: usize, found_exit: bool },
+    NoAnswer(Refusal),
+}
 
 // The bytes that a state's run skips.
 pub fn scan_ascii_run<'a>(room: &[u32], state: u16, input: &'a [u8]) -> &'a [u8]

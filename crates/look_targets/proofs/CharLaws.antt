@@ -6,7 +6,7 @@ use borrow.Author.Needs.{needs}
 use borrow.Author.Tests.{le-leb, lt-leb, lt-ltb, le-ltb}
 use Rattle.refusal.specs.Said.{Said}
 use Rattle.room_find.proofs.Records.{ofstate, oflist}
-use Rattle.room_find.proofs.Searches.{gives, gives-none, row-outside}
+use Rattle.look_row.proofs.Hits.{gives, gives-none, row-outside}
 use Rattle.look_targets.specs.Targets.{asciiTarget, wideOf, charTarget}
 
 -- "0 to 127 use the ascii row"; any other symbol the wide row

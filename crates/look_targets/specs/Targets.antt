@@ -8,7 +8,7 @@ use Rattle.refusal.specs.Lists.{pick}
 use Rattle.room_find.specs.declared.Found.{Found}
 use Rattle.refusal.specs.Header.{ASCII-START, WIDE-START}
 use Rattle.room_find.specs.Room.{recordAt, endOf, listedAt, follow, ofState}
-use Rattle.room_find.specs.Search.{searched, given}
+use Rattle.look_row.specs.Search.{searched, given}
 
 -- a target is "at most 65535"; it is only answered, so that it need not be a state
 abbrev pub target : ℕ → Said

@@ -8,6 +8,7 @@ ghost use mathlib.Core.Path.{_≡_};
 ghost use Rattle.room_find.specs.Answer.{said};
 ghost use Rattle.look_targets.specs.Targets.{half, asciiRowAt, rowTarget, asciiTarget, wideRowAt, target, eofTarget};
 ghost use Rattle.look_targets.specs.Targets.{searchTarget, wideTarget, wideOf, charTarget};
+use look_row::Hit;
 use refusal::ACCEPTS_START;
 use refusal::ASCII_START;
 use refusal::CONTINUATIONS_START;
@@ -15,7 +16,6 @@ use refusal::DEAD_STATE;
 use refusal::WIDE_START;
 use room_find::Answer;
 use room_find::Found;
-use room_find::Hit;
 
 // The half of a packed word that is a symbol's.
 fn half_of(word: u32, symbol: u32) -> u32

@@ -1,6 +1,6 @@
 // The records whose answer is a number, and those of a scan.
 use look_modes::Start;
-use look_runs::StateScan;
+use look_scan::StateScan;
 use replay_io::read;
 use replay_io::tally::Replayed;
 use room_find::Answer;

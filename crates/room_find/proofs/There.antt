@@ -6,7 +6,6 @@ use lib.ListN.{length, getD}
 use borrow.Author.Tests.{le-leb, lt-ltb, le-ltb}
 use Rattle.room_find.specs.declared.Found.the-variants.{At, Absent}
 use Rattle.room_find.specs.Room.{recordIn, listedIn, stateAt}
-use Rattle.room_find.specs.Search.{found, searched}
 
 -- a record of a section that lies in the room
 module _ (w : List ℕ) (s e : ℕ) (h : s < e) (k : e ≤ length w) (i : ℕ) where
@@ -36,8 +35,3 @@ module _ (w : List ℕ) (n : 8 < length w) (h : getD w 2 0 < getD w 3 0) (k : ge
   pub state-absent : getD w (getD w 2 0) 0 ≤ i → stateAt w i ≡ Absent
   unfolding stateAt
   state-absent c = simp (lt-ltb _ _ n, record-absent w (getD w 2 0) (getD w 3 0) h k i 4 c)
-
--- a row that lies in its section is searched
-pub row-searched : (w : List ℕ) (at e x : ℕ) → e ≤ length w → at < e → getD w at 0 * 3 + at < e → searched w at e x ≡ found w x (getD w at 0) (at + 1)
-unfolding searched
-row-searched w at e x k h l = simp (le-leb _ _ k, lt-ltb _ _ h, lt-ltb _ _ l)

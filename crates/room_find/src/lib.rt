@@ -19,13 +19,6 @@ pub enum Found {
     Outside,
 }
 
-// The third number of the range that was chosen, or none.
-pub enum Hit {
-    Third(u32),
-    Gap,
-    Outside,
-}
-
 // What is told of a state: a number; or no such state, or no table.
 pub enum Answer {
     Number(u32),

@@ -3,7 +3,7 @@ use native.Mathlib.Omega.{arith}
 use Prim.Native.Nat.{_≤_, _+_, _*_}
 use mathlib.Core.Path.{_≡_}
 use lib.ListN.{length}
-use Rattle.room_find.specs.Search.{found}
+use Rattle.look_row.specs.Search.{found}
 use Rattle.look_row.proofs.Searches.{hit}
 use Rattle.look_row.proofs.Searches.{searching}
 use Rattle.look_row.proofs.find_from.Statement.{statement}

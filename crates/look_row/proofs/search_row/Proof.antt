@@ -1,5 +1,5 @@
 -- The length is there, or the row is outside.
-use Rattle.room_find.specs.Search.{searched}
+use Rattle.look_row.specs.Search.{searched}
 use Rattle.room_find.proofs.Records.{cases}
 use Rattle.look_row.proofs.search_row.Statement.{statement}
 use Rattle.look_row.proofs.search_row.Tie as tie

@@ -2,7 +2,7 @@
 use Prim.Native.Nat.{_≤_, _+_, _*_}
 use mathlib.Core.Path.{_≡_}
 use lib.ListN.{length}
-use Rattle.room_find.specs.Search.{found}
+use Rattle.look_row.specs.Search.{found}
 use Rattle.look_row.proofs.Searches.{skipping}
 use Rattle.look_row.proofs.skip.Statement.{statement}
 use Rattle.look_row.proofs.skip.Tie as tie

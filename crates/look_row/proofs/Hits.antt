@@ -3,9 +3,9 @@ use Prim.Native.Nat.{ℕ}
 use mathlib.Core.Path.{_≡_, refl, sym, ap, _∙_}
 use mathlib.Core.List.{List, [], _∷_}
 use Rattle.refusal.specs.Said.{Said, ok, no}
-use Rattle.room_find.specs.declared.Hit.{Hit}
-use Rattle.room_find.specs.declared.Hit.the-variants.{Third, Gap, Outside}
-use Rattle.room_find.specs.Search.{said, given}
+use Rattle.look_row.specs.declared.Hit.{Hit}
+use Rattle.look_row.specs.declared.Hit.the-variants.{Third, Gap, Outside}
+use Rattle.look_row.specs.Search.{said, given}
 
 -- a third number, none, or nothing since the row is outside
 module _ {A : Type 0} (x : Hit) (f : ℕ → A) (a o : A) where

@@ -5,8 +5,8 @@ use lib.ListN.{length, getD}
 use lib.Dec.{ltb, leb}
 use Rattle.refusal.specs.Said.{Said, ok, no, NOT-TABLE}
 use Rattle.refusal.specs.Lists.{pick}
-use Rattle.room_find.specs.declared.Hit.{Hit}
-use Rattle.room_find.specs.declared.Hit.the-variants.{Third, Gap, Outside}
+use Rattle.look_row.specs.declared.Hit.{Hit}
+use Rattle.look_row.specs.declared.Hit.the-variants.{Third, Gap, Outside}
 
 -- the third number of the range that is chosen; that none is; or a refusal
 abbrev pub said : Hit → Said
