@@ -14,10 +14,10 @@ use Rattle.run_shape.specs.declared.AsciiRunScan.{AsciiRunScan}
 use Rattle.run_shape.specs.declared.Scanned.{Scanned}
 use Rattle.run_shape.specs.declared.Scanned.the-variants.{NoRun, Skipped}
 use Rattle.run_shape.specs.Shape.{shapeOf, Got, run, refused, Gives}
-use Rattle.run_shape.specs.Scan.{bit, said, scanSaid}
+use Rattle.run_shape.specs.Scan.{bit, said, scanSaid, scannedBy}
 use Rattle.run_shape.proofs.Answers.{given}
 use Rattle.c_scan.specs.declared.CScan.{CScan}
-use Rattle.c_scan.specs.Answers.{scanInC, refusedScan, scanGot}
+use Rattle.c_scan.specs.Answers.{scanInC, refusedScan}
 
 -- a flag is stored as its number
 byte-is-bit : (b : Bool) → boolByte b ≡ bit b
@@ -35,7 +35,7 @@ module _ {s : Scanned} where
 
 module _ (bs : List ℕ) {q : RunAnswer} where
   pub scan-run : (g : Got) (s : Scanned) {k : AsciiRun} {r : CScan} → Gives q g → q .answer ≡ Ran k → said s ≡ scanSaid (shapeOf k (q .ranges)) bs
-      → r ≡ scanInC (said s) → r ≡ scanInC (scanGot g bs)
+      → r ≡ scanInC (said s) → r ≡ scanInC (scannedBy g bs)
   scan-run (run x) s {k} h e f i =
       let j = given (run x) h in
       let m : x .kind ≡ k = cc in
@@ -45,7 +45,7 @@ module _ (bs : List ℕ) {q : RunAnswer} where
       let z : _≡_ {A = ℕ} 0 1 = cc in
       absurd (omega arith)
 
-  pub scan-refused : (g : Got) {x : Refusal} → Gives q g → q .answer ≡ Refused x → refusedScan (x .number) (x .place) ≡ scanInC (scanGot g bs)
+  pub scan-refused : (g : Got) {x : Refusal} → Gives q g → q .answer ≡ Refused x → refusedScan (x .number) (x .place) ≡ scanInC (scannedBy g bs)
   scan-refused (run y) h e =
       let j = given (run y) h in
       let z : _≡_ {A = ℕ} 0 1 = cc in

@@ -3,9 +3,8 @@ use Prim.Native.Nat.{ℕ}
 use mathlib.Core.List.{List, [], _∷_}
 use lib.ListN.{getD}
 use Rattle.refusal.specs.Said.{Said, ok, no}
-use Rattle.run_shape.specs.Shape.{shape, Got, run, refused}
 use Rattle.run_shape.specs.Words.{readAlone}
-use Rattle.run_shape.specs.Scan.{scanSaid}
+use Rattle.run_shape.specs.Scan.{scannedBy}
 use Rattle.c_scan.specs.declared.CScan.{CScan}
 
 abbrev pub refusedScan : ℕ → ℕ → CScan
@@ -17,10 +16,6 @@ scanInC (ok []) = refusedScan 0 0
 scanInC (ok (n ∷ l)) = record { number = 0; place = 0; ran = 1; bytes = n; «found_exit» = getD l 0 0 }
 scanInC (no n p) = refusedScan n p
 
-abbrev pub scanGot : Got → List ℕ → Said
-scanGot (run q) bs = scanSaid (shape q) bs
-scanGot (refused n p) bs = no n p
-
 -- the scan by the run whose words these are; anything but one run's words is FIELD
 abbrev pub scanCall : List ℕ → List ℕ → Said
-scanCall w bs = scanGot (readAlone w) bs
+scanCall w bs = scannedBy (readAlone w) bs

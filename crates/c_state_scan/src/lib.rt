@@ -2,8 +2,8 @@
 // A number of 0 says answered; else it is document 01's refusal, and every other field is 0.
 ghost use mathlib.Core.Path.{_≡_};
 ghost use Prim.Native.Nat.{_+_};
-ghost use Rattle.run_shape.specs.Scan.{bit};
-ghost use Rattle.look_runs.specs.StateRun.{asciiRun, scannedBy};
+ghost use Rattle.run_shape.specs.Scan.{bit, scannedBy};
+ghost use Rattle.look_runs.specs.StateRun.{asciiRun};
 ghost use Rattle.look_scan.specs.StateScan.{said};
 ghost use Rattle.c_state_scan.specs.Answers.{stateScanInC};
 use look_scan::StateScan;

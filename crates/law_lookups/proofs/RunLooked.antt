@@ -13,12 +13,12 @@ use Rattle.refusal.specs.Said.{STATE}
 use Rattle.refusal.specs.Lists.{pick}
 use Rattle.run_shape.specs.Shape.{Shape, none, any, until, ranges, Got, run, refused, shape, held}
 use Rattle.run_shape.specs.Words.{readAt}
-use Rattle.run_shape.specs.Scan.{skipped, scanSaid}
+use Rattle.run_shape.specs.Scan.{skipped, scanSaid, scannedBy}
 use Rattle.run_shape.specs.Classify.{classification}
 use Rattle.room_find.specs.declared.Found.the-variants as place
 use Rattle.room_find.specs.Room.{follow}
 use Rattle.look_runs.specs.RunPlaces.{runPlace}
-use Rattle.look_runs.specs.StateRun.{runIn, runOf, asciiRun, skippedBy, scannedBy}
+use Rattle.look_runs.specs.StateRun.{runIn, runOf, asciiRun, skippedBy}
 use Rattle.law_tables.specs.Table.{Table, Fields, RunFields, runWords}
 use Rattle.law_tables.specs.Rules.{Rules, Numbered, rowOf}
 use Rattle.law_tables.proofs.Codec.{At}

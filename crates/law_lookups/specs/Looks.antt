@@ -10,7 +10,7 @@ use Rattle.refusal.specs.Fixed.{NONE}
 use Rattle.refusal.specs.Lists.{pick, some, each}
 use Rattle.run_shape.specs.Shape.{Got, run, refused, held}
 use Rattle.run_shape.specs.Classify.{classification}
-use Rattle.run_shape.specs.Scan.{skipped, scanSaid}
+use Rattle.run_shape.specs.Scan.{skipped, scanSaid, scannedBy}
 use Rattle.room_fill.specs.Room.{flag}
 use Rattle.law_tables.specs.Table.{Table, State, Range, Accept, Escape, Config, Continuation, actionWords, contextWords, configWords}
 use Rattle.law_tables.specs.Rules.{absent, rowOf}
@@ -23,7 +23,7 @@ use Rattle.look_accepts.specs.Accept.{acceptOf}
 use Rattle.look_accepts.specs.Record as accepts
 use Rattle.look_continuations.specs.Continuation.{charContinuation, eofContinuation}
 use Rattle.look_continuation_records.specs.Configs as configs
-use Rattle.look_runs.specs.StateRun.{asciiRun, skippedBy, scannedBy}
+use Rattle.look_runs.specs.StateRun.{asciiRun, skippedBy}
 
 -- "A wide or escape row is read to the first range whose high is at least the symbol;
 -- its target if low is at most the symbol, else dead (escape: no continuation)":

@@ -4,6 +4,7 @@ use mathlib.Core.Path.{_≡_}
 use mathlib.Core.List.{List}
 use Rattle.refusal.specs.Said.{Said, no, NOT-TABLE}
 use Rattle.run_shape.specs.Shape as run
+use Rattle.run_shape.specs.Scan.{scannedBy}
 use Rattle.look_modes.specs.Start.{modeStart}
 use Rattle.look_modes.specs.Modes.{stateCount, hasCompiledModes}
 use Rattle.look_mode_lists.specs.Written as list
@@ -14,7 +15,7 @@ use Rattle.look_accepts.specs.Accept.{acceptOf}
 use Rattle.look_accepts.specs.Record as accepts
 use Rattle.look_continuations.specs.Continuation.{charContinuation, eofContinuation}
 use Rattle.look_continuation_records.specs.Configs as configs
-use Rattle.look_runs.specs.StateRun.{asciiRun, scannedBy}
+use Rattle.look_runs.specs.StateRun.{asciiRun}
 
 -- an answer that is not NOT-TABLE
 abbrev pub Known : Said → Type 0

@@ -10,12 +10,12 @@ use Rattle.refusal.specs.Said.{ok, no, STATE}
 use Rattle.refusal.specs.Lists.{pick}
 use Rattle.run_shape.specs.Shape.{none}
 use Rattle.run_shape.specs.Classify.{classification}
-use Rattle.run_shape.specs.Scan.{skipped, scanSaid}
+use Rattle.run_shape.specs.Scan.{skipped, scanSaid, scannedBy}
 use Rattle.run_classify.proofs.Described.{run-said}
 use Rattle.look_scan.specs.declared.StateScan.{StateScan}
 use Rattle.look_scan.specs.declared.StateScan.the-variants.{NoRun}
 use Rattle.look_scan.specs.StateScan as scan
-use Rattle.look_runs.specs.StateRun.{asciiRun, skippedBy, scannedBy}
+use Rattle.look_runs.specs.StateRun.{asciiRun, skippedBy}
 use Rattle.look_scan.proofs.Answers.{said-one}
 use Rattle.room_decode.specs.declared.Decoded.{Decoded}
 use Rattle.room_decode.specs.Decode.{said}

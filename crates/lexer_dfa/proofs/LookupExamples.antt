@@ -9,7 +9,7 @@ use Rattle.refusal.specs.Fixed.{NONE, tag, ESCAPE-STATE, DEAD-STATE}
 use Rattle.refusal.specs.Lists.{some, every, before}
 use Rattle.run_shape.specs.Shape.{held}
 use Rattle.run_shape.specs.Words.{orField, shortRun, readAt}
-use Rattle.run_shape.specs.Scan.{stops, scanSaid}
+use Rattle.run_shape.specs.Scan.{stops, scanSaid, scannedBy}
 use Rattle.room_find.specs.Room.{recordIn, listedIn, pastLists, listedAt, stateAt, follow}
 use Rattle.look_row.specs.Search.{found, searched, given}
 use Rattle.look_modes.specs.Start.{modeAt, modeStart}
@@ -22,7 +22,7 @@ use Rattle.look_accepts.specs.Accept.{acceptOf}
 use Rattle.look_accepts.specs.Record as accepts
 use Rattle.look_continuations.specs.Continuation.{searchRow, charContinuation, eofContinuation}
 use Rattle.look_continuation_records.specs.Configs as configs
-use Rattle.look_runs.specs.StateRun.{runIn, runOf, asciiRun, scannedBy}
+use Rattle.look_runs.specs.StateRun.{runIn, runOf, asciiRun}
 
 -- header; tag and modes; states; runs; one ascii row; one wide row; one accept; escape rows; one continuation; places; zeros
 abbrev room : List ℕ

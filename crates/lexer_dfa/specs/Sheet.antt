@@ -10,10 +10,10 @@ use Rattle.run_ranges.specs.declared.AsciiRange.{AsciiRange}
 use Rattle.run_ranges.specs.Ranges.{range, inRanges}
 use Rattle.run_class.specs.Byte.{upFrom}
 use Rattle.run_shape.specs.declared.RunWords.{RunWords}
-use Rattle.run_shape.specs.Shape.{Got, run, refused, gotSaid, shape}
+use Rattle.run_shape.specs.Shape.{Got, run, refused, gotSaid}
 use Rattle.run_shape.specs.Classify.{classified}
 use Rattle.run_shape.specs.Words.{wordsOfRun}
-use Rattle.run_shape.specs.Scan.{scanSaid}
+use Rattle.run_shape.specs.Scan.{scannedBy}
 use Rattle.buffer.specs.Over.{zeros}
 use Rattle.room_decode.specs.Decode as codec
 use Rattle.list_transitions.specs.Read as of-list
@@ -54,10 +54,6 @@ abbrev pub wordsSaid : Got → Said
 wordsSaid (run r) = ok (wordList (wordsOfRun (r .kind) (r .ranges)))
 wordsSaid (refused n p) = no n p
 
-abbrev pub scannedSaid : List ℕ → Got → Said
-scannedSaid bytes (run r) = scanSaid (shape r) bytes
-scannedSaid bytes (refused n p) = no n p
-
 -- what is left in front of a buffer: as many numbers as the answer's own numbers tell, or the refusal that was given
 abbrev pub leftSaid : (List ℕ → List ℕ) → Said → Said
 leftSaid f (ok l) = ok (f l)
@@ -89,7 +85,7 @@ stated = record { segments = 4096; masks = 8192; distinct = 8192; ascii = 128; w
 abbrev pub saidBy : Call → Said
 saidBy (classify row state) = gotSaid (classified state row)
 saidBy (words row state) = wordsSaid (classified state row)
-saidBy (scan row state bytes) = scannedSaid bytes (classified state row)
+saidBy (scan row state bytes) = scannedBy (classified state row) bytes
 saidBy (decode list room) = codec.said (codec.decodeOf list room)
 saidBy (transitions list) = of-list.counted (parse list)
 saidBy (segments list) = segmentsSaid (parseFor 4096 list)

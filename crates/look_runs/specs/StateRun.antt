@@ -1,14 +1,14 @@
--- The run of a state, and the scan by it (document 01, "Lookups"). w is the room, s a state, bs the bytes of an input. Assumes nothing.
+-- The run of a state, and what a scan by it skips (document 01, "Lookups"). w is the room, s a state, bs the bytes of an input. Assumes nothing.
 use Prim.Native.Nat.{ℕ}
 use mathlib.Core.List.{List}
 use lib.ListN.{take}
-use Rattle.refusal.specs.Said.{Said, no, STATE, NOT-TABLE}
+use Rattle.refusal.specs.Said.{STATE, NOT-TABLE}
 use Rattle.run_ranges.specs.declared.AsciiRanges.{AsciiRanges}
 use Rattle.run_shape.specs.declared.Answered.{Answered}
 use Rattle.run_shape.specs.declared.Answered.the-variants.{Ran, Refused}
 use Rattle.run_shape.specs.Shape.{Got, run, refused, shape}
 use Rattle.run_shape.specs.Words.{readAt}
-use Rattle.run_shape.specs.Scan.{skipped, scanSaid}
+use Rattle.run_shape.specs.Scan.{skipped}
 use Rattle.refusal.specs.Header.{RUNS-START}
 use Rattle.room_find.specs.Room.{endOf, stateAt, follow}
 use Rattle.look_runs.specs.RunPlaces.{runPlace}
@@ -41,8 +41,3 @@ asciiRun w s = follow (stateAt w s) (λ p. runOf w s) (refused STATE 0) notTable
 abbrev pub skippedBy : Got → List ℕ → ℕ
 skippedBy (run r) bs = skipped (shape r) bs
 skippedBy (refused n p) bs = 0
-
--- no run; the length of the skipped run, and whether an exit was found; or a refusal
-abbrev pub scannedBy : Got → List ℕ → Said
-scannedBy (run r) bs = scanSaid (shape r) bs
-scannedBy (refused n p) bs = no n p

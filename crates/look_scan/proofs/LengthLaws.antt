@@ -20,13 +20,13 @@ use Rattle.run_shape.specs.declared.Answered.the-variants.{Ran, Refused}
 use Rattle.run_shape.specs.Shape.{Got, refused, shapeOf, held as heldRun, answered, Gives}
 use Rattle.run_shape.specs.Words.{readAt, shortRun, orField, kindOf, bytesOf, rangesRun}
 use Rattle.run_shape.specs.Scan as scan
-use Rattle.run_shape.specs.Scan.{bit, scanSaid}
+use Rattle.run_shape.specs.Scan.{bit, scanSaid, scannedBy}
 use Rattle.run_shape.proofs.Reading.{bare, read-end, read-short, read-cut, read-ranges}
 use Rattle.room_find.specs.declared.Found.{Found}
 use Rattle.room_find.specs.declared.Found.the-variants.{At, Absent, Outside}
 use Rattle.room_find.specs.Room.{follow}
 use Rattle.room_find.proofs.Records.{oflist}
-use Rattle.look_runs.specs.StateRun.{judged, gotOf, scannedBy}
+use Rattle.look_runs.specs.StateRun.{judged, gotOf}
 use Rattle.look_runs.proofs.Laws.{got-back, got-answered, taken}
 
 -- what a scan by a run answers

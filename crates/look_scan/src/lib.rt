@@ -1,7 +1,7 @@
 // The scan by a state's run, as the front part of the input itself, and by its length. The room may be of any length and hold any numbers.
 ghost use mathlib.Core.Path.{_≡_};
 ghost use lib.ListN.{take, length};
-ghost use Rattle.look_runs.specs.StateRun.{asciiRun, skippedBy, judged, runIn, runOf, scannedBy};
+ghost use Rattle.look_runs.specs.StateRun.{asciiRun, skippedBy, judged, runIn, runOf};
 ghost use Rattle.look_scan.specs.StateScan.{said};
 ghost use Prim.Native.Nat.{_≤_};
 ghost use Rattle.run_shape.specs.Scan as scan;
@@ -69,7 +69,7 @@ fn scan_by(kind: AsciiRun, ranges: AsciiRanges, input: &[u8]) -> StateScan
 
 // The scan by a run of one word. The word 0 is none, which most states have.
 fn scan_short(word: u32, at: usize, input: &[u8]) -> StateScan
-    ensures { λ r. ⌜ said r ≡ scannedBy (judged (shortRun at (kindOf word) (bytesOf word))) (now (input .entry)) ⌝ }
+    ensures { λ r. ⌜ said r ≡ scan.scannedBy (judged (shortRun at (kindOf word) (bytesOf word))) (now (input .entry)) ⌝ }
 {
     if word == 0 {
         return StateScan::NoRun;
@@ -82,7 +82,7 @@ fn scan_short(word: u32, at: usize, input: &[u8]) -> StateScan
 
 // The scan by a kind-5 run, whose three words are there.
 fn scan_ranges(kind: u32, words: PackedRanges, at: usize, input: &[u8]) -> StateScan
-    ensures { λ r. ⌜ said r ≡ scannedBy (judged (rangesRun at (rangesOfRun kind words))) (now (input .entry)) ⌝ }
+    ensures { λ r. ⌜ said r ≡ scan.scannedBy (judged (rangesRun at (rangesOfRun kind words))) (now (input .entry)) ⌝ }
 {
     let ranges = run_ranges::from_run(kind, words);
     if ranges.count == 0 {
@@ -94,7 +94,7 @@ fn scan_ranges(kind: u32, words: PackedRanges, at: usize, input: &[u8]) -> State
 // The scan by the run that stands at a word. The words are read as `run_words::read_serialized` reads them, but the run is not handed on
 // from call to call: through memory that takes longer than most scans.
 fn scan_words(words: &[u32], at: usize, input: &[u8]) -> StateScan
-    ensures { λ r. ⌜ said r ≡ scannedBy (judged (readAt (now (words .entry)) at)) (now (input .entry)) ⌝ }
+    ensures { λ r. ⌜ said r ≡ scan.scannedBy (judged (readAt (now (words .entry)) at)) (now (input .entry)) ⌝ }
 {
     if words.len() <= at {
         return no_answer(NOT_TABLE);
@@ -115,14 +115,14 @@ fn scan_words(words: &[u32], at: usize, input: &[u8]) -> StateScan
 
 fn scan_run(room: &[u32], end: u32, at: usize, input: &[u8]) -> StateScan
     requires { ⌜ end ≤ length (now room) ⌝ }
-    ensures { λ r. ⌜ said r ≡ scannedBy (runIn (now (room .entry)) end at) (now (input .entry)) ⌝ }
+    ensures { λ r. ⌜ said r ≡ scan.scannedBy (runIn (now (room .entry)) end at) (now (input .entry)) ⌝ }
 {
     let to = end as usize;
     scan_words(&room[..to], at, input)
 }
 
 fn scan_of(room: &[u32], i: u32, input: &[u8]) -> StateScan
-    ensures { λ r. ⌜ said r ≡ scannedBy (runOf (now (room .entry)) i) (now (input .entry)) ⌝ }
+    ensures { λ r. ⌜ said r ≡ scan.scannedBy (runOf (now (room .entry)) i) (now (input .entry)) ⌝ }
 {
     match look_runs::find_run(room, i) {
         Found::At(p) => scan_run(room, room[ASCII_START], p, input),
@@ -133,7 +133,7 @@ fn scan_of(room: &[u32], i: u32, input: &[u8]) -> StateScan
 
 // How many bytes a state's run skips, and whether an exit was found; or that there is no run.
 pub fn scan_ascii_run_length(room: &[u32], state: u16, input: &[u8]) -> StateScan
-    ensures { λ r. ⌜ said r ≡ scannedBy (asciiRun (now (room .entry)) state) (now (input .entry)) ⌝ }
+    ensures { λ r. ⌜ said r ≡ scan.scannedBy (asciiRun (now (room .entry)) state) (now (input .entry)) ⌝ }
 {
     match room_find::find_state(room, state) {
         Found::At(_) => scan_of(room, state as u32, input),

@@ -4,14 +4,14 @@ use mathlib.Core.Bool.{Bool, true, false}
 use mathlib.Core.List.{List, [], _∷_}
 use lib.Dec.{eqb, ltb}
 use lib.ListN.{length}
-use Rattle.refusal.specs.Said.{Said, ok}
+use Rattle.refusal.specs.Said.{Said, ok, no}
 use Rattle.refusal.specs.Lists.{pick, some, before}
 use Rattle.run_ranges.specs.Ranges.{outside}
 use Rattle.run_shape.specs.declared.AsciiRun.{AsciiRun}
 use Rattle.run_shape.specs.declared.AsciiRun.the-variants.{None, Any, Until1, Until2, Until3, Ranges}
 use Rattle.run_shape.specs.declared.Scanned.{Scanned}
 use Rattle.run_shape.specs.declared.Scanned.the-variants.{NoRun, Skipped}
-use Rattle.run_shape.specs.Shape.{Shape, none, any, until, ranges}
+use Rattle.run_shape.specs.Shape.{Shape, none, any, until, ranges, shape, Got, run, refused}
 
 -- "until-runs stop only at their exit bytes"; ranges stop outside; "any takes all"; none takes nothing
 unfoldable pub stops : Shape → ℕ → Bool
@@ -57,3 +57,8 @@ scanSaid none bs = ok []
 scanSaid any bs = skippedSaid (skipped any bs) bs
 scanSaid (until es) bs = skippedSaid (skipped (until es) bs) bs
 scanSaid (ranges rs) bs = skippedSaid (skipped (ranges rs) bs) bs
+
+-- the scan by the run that a call gave, or the refusal that it gave
+abbrev pub scannedBy : Got → List ℕ → Said
+scannedBy (run r) bs = scanSaid (shape r) bs
+scannedBy (refused n p) bs = no n p
