@@ -1,12 +1,11 @@
 -- What is said of an accept's record takes no two answers to one. Assumes nothing.
 use Prim.Native.Nat.{ℕ}
 use mathlib.Core.Path.{_≡_, refl, sym, ap, _∙_}
-use mathlib.Core.Bool.{Bool, true, false}
 use mathlib.Core.List.{List, [], _∷_}
 use lib.Dec.{eqb}
 use lib.ListN.{getD}
 use Rattle.refusal.specs.Said.{Said, ok, no}
-use Rattle.refusal.specs.Lists.{pick}
+use Rattle.refusal.proofs.Flags.{flag-back}
 use Rattle.look_accepts.specs.declared.AcceptRecord.{AcceptRecord}
 use Rattle.look_accepts.specs.declared.AcceptRecord.the-variants as recorded
 use Rattle.look_accepts.specs.declared.AcceptRecord.the-variants.{Record, NoRecord}
@@ -20,10 +19,6 @@ listBack (rule ∷ l) = Record rule (eqb (getD l 0 0) 1) (getD l 1 0)
 abbrev recordBack : Said → AcceptRecord
 recordBack (ok l) = listBack l
 recordBack (no n p) = recorded.NotTable
-
-flag-back : (b : Bool) → eqb (pick b 1 0) 1 ≡ b
-flag-back true = refl
-flag-back false = refl
 
 record-back-said : (x : AcceptRecord) → recordBack (of-record.said x) ≡ x
 record-back-said (Record rule flag actions) = rw (flag-back flag)

@@ -1,7 +1,7 @@
 -- The loop that writes the state counts: a start waits for the one behind it, and the last for the state count. Assumes nothing.
 use Prim.Native.Nat.{ℕ, _+_, _-_, _<_, _≤_}
 use native.Mathlib.Omega.{arith}
-use mathlib.Core.Path.{_≡_, refl, sym}
+use mathlib.Core.Path.{_≡_, refl}
 use mathlib.Core.Bool.{Bool, true, false}
 use mathlib.Core.List.{List, [], _∷_, _++_, append-nil}
 use lib.Dec.{leb}
@@ -10,16 +10,12 @@ use borrow.Author.Needs.{needs}
 use borrow.Author.Tests.{le-leb, lt-leb}
 use Rattle.refusal.specs.Fixed.{NONE}
 use Rattle.buffer.specs.Over.{Put}
-use Rattle.buffer.proofs.Overs.{lay-none}
-use Rattle.buffer.proofs.Going.{Going, going-start, going-done, going-room, going-turn, going-put}
+use Rattle.buffer.proofs.Going.{Going, going-start, going-done, going-room, going-turn, going-put, put-none}
 use Rattle.look_modes.specs.Modes.{numbers}
 use Rattle.look_modes.proofs.Numbers.{numbers-open, numbers-done}
 use Rattle.look_mode_lists.specs.Counts.{compiledOf, differences, countsOf, later, gap, step}
 
 -- One mode
-
-put-none : (m : ℕ) (d : List ℕ) → Put [] m d m d
-put-none m d = record { next = omega arith; is = sym (lay-none m d) }
 
 module _ (last next m : ℕ) (d : List ℕ) where
   pub gap-place : last ≤ 65535 → m + length (gap last next) ≤ length d → m < length d

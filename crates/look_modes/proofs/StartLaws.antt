@@ -2,7 +2,6 @@
 use Prim.Native.Nat.{ℕ, _*_, _^_, _<_}
 use native.Mathlib.Omega.{arith}
 use mathlib.Core.Path.{_≡_, refl, sym, ap, _∙_}
-use mathlib.Core.Bool.{Bool, true, false}
 use mathlib.Core.List.{List, [], _∷_}
 use lib.Dec.{ltb, leb, eqb}
 use lib.ListN.{length, getD}
@@ -11,7 +10,7 @@ use mir.Val.{Fits}
 use borrow.Author.Needs.{needs}
 use borrow.Author.Tests.{le-leb, lt-leb, lt-ltb, le-ltb, eq-eqb, ne-eqb}
 use Rattle.refusal.specs.Said.{Said, ok, no}
-use Rattle.refusal.specs.Lists.{pick}
+use Rattle.refusal.proofs.Flags.{flag-back}
 use Rattle.room_find.specs.declared.Found.{Found}
 use Rattle.room_find.specs.declared.Found.the-variants as found
 use Rattle.refusal.specs.Header.{MODES-START, STATES-START, CONTINUATIONS-START}
@@ -67,10 +66,6 @@ said-one x y e = sym (start-back x) ∙ ap startBack e ∙ start-back y
 abbrev compiledBack : Said → Compiled
 compiledBack (ok l) = some-are.Modes (eqb (getD l 0 0) 1)
 compiledBack (no n p) = some-are.NotTable
-
-flag-back : (b : Bool) → eqb (pick b 1 0) 1 ≡ b
-flag-back true = refl
-flag-back false = refl
 
 compiled-back : (x : Compiled) → compiledBack (compiledSaid x) ≡ x
 compiled-back (some-are.Modes b) = rw (flag-back b)

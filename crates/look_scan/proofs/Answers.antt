@@ -1,12 +1,11 @@
 -- `said` takes no two answers to one: what it says gives the answer back. Assumes nothing.
 use Prim.Native.Nat.{ℕ}
 use mathlib.Core.Path.{_≡_, refl, sym, ap, _∙_}
-use mathlib.Core.Bool.{Bool, true, false}
 use mathlib.Core.List.{List, [], _∷_}
 use lib.Dec.{eqb}
 use lib.ListN.{getD}
 use Rattle.refusal.specs.Said.{Said, ok, no}
-use Rattle.run_shape.specs.Scan.{bit}
+use Rattle.refusal.proofs.Flags.{flag-back}
 use Rattle.look_scan.specs.declared.StateScan.{StateScan}
 use Rattle.look_scan.specs.declared.StateScan.the-variants.{NoRun, Skipped, NoAnswer}
 use Rattle.look_scan.specs.StateScan.{said}
@@ -19,13 +18,9 @@ abbrev back : Said → StateScan
 back (ok l) = listBack l
 back (no n p) = NoAnswer (record { number = n; place = p })
 
-bit-back : (b : Bool) → eqb (bit b) 1 ≡ b
-bit-back true = refl
-bit-back false = refl
-
 back-said : (x : StateScan) → back (said x) ≡ x
 back-said NoRun = refl
-back-said (Skipped n b) = rw (bit-back b)
+back-said (Skipped n b) = rw (flag-back b)
 back-said (NoAnswer r) = refl
 
 pub said-one : (x y : StateScan) → said x ≡ said y → x ≡ y
