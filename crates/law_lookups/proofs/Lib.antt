@@ -1,5 +1,4 @@
 pub mod Stands
-pub mod Renewed
 pub mod Held
 pub mod Lists
 pub mod Looked

@@ -14,7 +14,7 @@ use Rattle.refusal.specs.Fixed.{NONE}
 use Rattle.refusal.specs.Lists.{pick, each}
 use Rattle.room_find.specs.declared.Found.the-variants as place
 use Rattle.look_row.specs.declared.Hit.the-variants as hit
-use Rattle.refusal.specs.Header.{ESCAPES-START}
+use Rattle.refusal.specs.Header.{MODES-START, STATES-START, RUNS-START, ASCII-START, WIDE-START, ACCEPTS-START, ESCAPES-START, CONTINUATIONS-START}
 use Rattle.room_find.specs.Room as rooms
 use Rattle.room_find.specs.Room.{listedAt, stateAt, follow}
 use Rattle.room_find.proofs.There.{record-there, record-absent, state-there, state-absent}
@@ -24,13 +24,14 @@ use Rattle.look_row.proofs.Searches.{row-searched}
 use Rattle.law_tables.specs.Table.{modeWords, stateWords, asciiWords, rangeWords, wideWords, escapeWords}
 use Rattle.law_tables.specs.Rules.{Rules, Good, NoneOr, targets, absent, rowOf}
 use Rattle.law_tables.proofs.Codec.{At, on, at-head}
+use Rattle.law_tables.proofs.Sizes.{sized, threes, all-of}
 use Rattle.look_modes.specs.Start.{started, modeAt, modeStart}
 use Rattle.look_modes.specs.Modes.{stateCount}
 use Rattle.look_targets.specs.Targets.{target, half, asciiRowAt, rowTarget, wideRowAt, wideTarget, asciiTarget, charTarget, eofTarget}
 use Rattle.look_accepts.specs.Accept.{acceptOf}
 use Rattle.look_continuations.specs.Continuation.{searchRow, charContinuation, eofContinuation}
 use Rattle.law_lookups.specs.Looks.{goalAt, ofState, stateOf, startOf, modeStartOf, asciiTargetOf, charTargetOf, escapeOf, charContinuationOf}
-use Rattle.law_lookups.proofs.Stands.{Within, counts, opens, inside, recorded, sized, threes, all-of, all-take, all-nth, at-number}
+use Rattle.law_lookups.proofs.Stands.{Within, counts, opens, inside, recorded, all-take, all-nth, at-number}
 use Rattle.law_lookups.proofs.Held.{Held}
 use Rattle.law_lookups.proofs.Lists.{listed-is, wide-listed, escapes-listed}
 
@@ -92,15 +93,15 @@ module _ (t : Table) (h : Fields t) (r : Rules t) (w : List ℕ) (k : Held t w) 
   -- States
 
   -- the four numbers of a state
-  pub state-place : (s : ℕ) → s < length (t .states) → Within w (getD w 3 0) (s * 4 + getD w 2 0 + 1) (stateWords (stateOf t s))
+  pub state-place : (s : ℕ) → s < length (t .states) → Within w (getD w RUNS-START 0) (s * 4 + getD w STATES-START 0 + 1) (stateWords (stateOf t s))
   state-place s l =
       let n : length (each stateWords (take s (t .states))) ≡ s * 4 =
       sized stateWords 4 (take s (t .states)) (all-of (λ x. length (stateWords x) ≡ 4) (λ x. refl) (take s (t .states)))
       ∙ ap (λ m. m * 4) (length-take-le s (t .states) (omega arith)) in
-      let p : getD w 2 0 + 1 + length (each stateWords (take s (t .states))) ≡ s * 4 + getD w 2 0 + 1 = omega (arith, n) in
-      subst (λ m. Within w (getD w 3 0) m (stateWords (stateOf t s))) p (recorded (k .states) s absent l)
+      let p : getD w STATES-START 0 + 1 + length (each stateWords (take s (t .states))) ≡ s * 4 + getD w STATES-START 0 + 1 = omega (arith, n) in
+      subst (λ m. Within w (getD w RUNS-START 0) m (stateWords (stateOf t s))) p (recorded (k .states) s absent l)
 
-  pub state-at : (s : ℕ) → s < length (t .states) → stateAt w s ≡ place.At (s * 4 + getD w 2 0 + 1)
+  pub state-at : (s : ℕ) → s < length (t .states) → stateAt w s ≡ place.At (s * 4 + getD w STATES-START 0 + 1)
   state-at s l =
       state-there w (k .long) (opens (k .states)) (inside (k .states)) s (omega (arith, counts (k .states))) (omega (arith, state-place s l .ends))
 
@@ -108,7 +109,7 @@ module _ (t : Table) (h : Fields t) (r : Rules t) (w : List ℕ) (k : Held t w) 
   state-none s l = state-absent w (k .long) (opens (k .states)) (inside (k .states)) s (omega (arith, counts (k .states)))
 
   -- what is said of a state that is there, and STATE of one that is not
-  pub of-state : (s : ℕ) (f : ℕ → Said) (y : Said) → ((p : ℕ) → s < length (t .states) → Within w (getD w 3 0) p (stateWords (stateOf t s)) → f p ≡ y)
+  pub of-state : (s : ℕ) (f : ℕ → Said) (y : Said) → ((p : ℕ) → s < length (t .states) → Within w (getD w RUNS-START 0) p (stateWords (stateOf t s)) → f p ≡ y)
       → rooms.ofState w s f ≡ pick (ltb s (length (t .states))) y (no STATE 0)
   unfolding follow
   of-state s f y g = go (ltb s (length (t .states))) refl
@@ -117,7 +118,7 @@ module _ (t : Table) (h : Fields t) (r : Rules t) (w : List ℕ) (k : Held t w) 
       go true u = let l = ltb-true _ _ u in rw (state-at s l) (g _ l (state-place s l))
       go false u = rw (state-none s (ltb-false _ _ u))
 
-  module _ (s : ℕ) {p : ℕ} (z : Within w (getD w 3 0) p (stateWords (stateOf t s))) where
+  module _ (s : ℕ) {p : ℕ} (z : Within w (getD w RUNS-START 0) p (stateWords (stateOf t s))) where
     abbrev st : State
     st = stateOf t s
 
@@ -151,27 +152,28 @@ module _ (t : Table) (h : Fields t) (r : Rules t) (w : List ℕ) (k : Held t w) 
   -- Modes
 
   -- a mode's start
-  mode-number : (m : ℕ) → m < length (t .modes) → Within w (getD w 2 0) (m * 1 + getD w 1 0 + 1) (modeWords (getD (t .modes) m NONE))
+  mode-number : (m : ℕ) → m < length (t .modes) → Within w (getD w STATES-START 0) (m * 1 + getD w MODES-START 0 + 1) (modeWords (getD (t .modes) m NONE))
   mode-number m l =
       let n : length (each modeWords (take m (t .modes))) ≡ m * 1 =
       sized modeWords 1 (take m (t .modes)) (all-of (λ x. length (modeWords x) ≡ 1) (λ x. refl) (take m (t .modes)))
       ∙ ap (λ i. i * 1) (length-take-le m (t .modes) (omega arith)) in
-      let p : getD w 1 0 + 1 + length (each modeWords (take m (t .modes))) ≡ m * 1 + getD w 1 0 + 1 = omega (arith, n) in
-      subst (λ i. Within w (getD w 2 0) i (modeWords (getD (t .modes) m NONE))) p (recorded (k .modes) m NONE l)
+      let p : getD w MODES-START 0 + 1 + length (each modeWords (take m (t .modes))) ≡ m * 1 + getD w MODES-START 0 + 1 = omega (arith, n) in
+      subst (λ i. Within w (getD w STATES-START 0) i (modeWords (getD (t .modes) m NONE))) p (recorded (k .modes) m NONE l)
 
-  mode-at : (m : ℕ) → m < length (t .modes) → modeAt w m ≡ place.At (m * 1 + getD w 1 0 + 1)
+  mode-at : (m : ℕ) → m < length (t .modes) → modeAt w m ≡ place.At (m * 1 + getD w MODES-START 0 + 1)
   unfolding modeAt
   mode-at m l =
       let z = k .modes in
       let small : m < 2147483648 = omega (arith, k .few-modes) in
-      let e = record-there w (getD w 1 0) (getD w 2 0) (opens z) (inside z) m 1 (omega (arith, counts z)) (omega (arith, mode-number m l .ends)) in
+      let e = record-there w (getD w MODES-START 0) (getD w STATES-START 0) (opens z) (inside z) m 1 (omega (arith, counts z))
+      (omega (arith, mode-number m l .ends)) in
       simp (lt-ltb _ _ (k .long), lt-ltb _ _ (opens z), le-leb _ _ (inside z), lt-ltb _ _ small, e)
 
   mode-none : (m : ℕ) → length (t .modes) ≤ m → modeAt w m ≡ place.Absent
   unfolding modeAt
   mode-none m l =
       let z = k .modes in
-      let e = record-absent w (getD w 1 0) (getD w 2 0) (opens z) (inside z) m 1 (omega (arith, counts z)) in
+      let e = record-absent w (getD w MODES-START 0) (getD w STATES-START 0) (opens z) (inside z) m 1 (omega (arith, counts z)) in
       rw (lt-ltb _ _ (k .long), lt-ltb _ _ (opens z), le-leb _ _ (inside z), e) (go (ltb m 2147483648))
     where
       go : (b : Bool) → pick b place.Absent place.Absent ≡ place.Absent
@@ -198,26 +200,28 @@ module _ (t : Table) (h : Fields t) (r : Rules t) (w : List ℕ) (k : Held t w) 
     row-length : length words ≡ 64
     row-length = all-nth AsciiFields (t .ascii) row [] (h .ascii) l
 
-    row-place : Within w (getD w 5 0) (row * 64 + getD w 4 0 + 1) words
+    row-place : Within w (getD w WIDE-START 0) (row * 64 + getD w ASCII-START 0 + 1) words
     row-place =
         let n : length (each asciiWords (take row (t .ascii))) ≡ row * 64 =
         sized asciiWords 64 (take row (t .ascii)) (all-take AsciiFields (t .ascii) row (h .ascii))
         ∙ ap (λ i. i * 64) (length-take-le row (t .ascii) (omega arith)) in
-        let p : getD w 4 0 + 1 + length (each asciiWords (take row (t .ascii))) ≡ row * 64 + getD w 4 0 + 1 = omega (arith, n) in
-        subst (λ i. Within w (getD w 5 0) i words) p (recorded (k .ascii) row [] l)
+        let p : getD w ASCII-START 0 + 1 + length (each asciiWords (take row (t .ascii))) ≡ row * 64 + getD w ASCII-START 0 + 1 = omega (arith, n) in
+        subst (λ i. Within w (getD w WIDE-START 0) i words) p (recorded (k .ascii) row [] l)
 
-    row-at : asciiRowAt w row ≡ place.At (row * 64 + getD w 4 0 + 1)
+    row-at : asciiRowAt w row ≡ place.At (row * 64 + getD w ASCII-START 0 + 1)
     unfolding asciiRowAt
     row-at =
         let z = k .ascii in
-        let e = record-there w (getD w 4 0) (getD w 5 0) (opens z) (inside z) row 64 (omega (arith, counts z)) (omega (arith, row-place .ends, row-length)) in
+        let e = record-there w (getD w ASCII-START 0) (getD w WIDE-START 0) (opens z) (inside z) row 64 (omega (arith, counts z))
+        (omega (arith, row-place .ends, row-length)) in
         rw (lt-ltb _ _ (k .long)) e
 
     row-target : (x : ℕ) → x < 128 → rowTarget w row x ≡ ok (getD (targets words) x 0 ∷ [])
     unfolding rowTarget follow
     row-target x b =
         let i : x / 2 < length words = omega (arith, row-length) in
-        let e : getD w (row * 64 + getD w 4 0 + 1 + x / 2) 0 ≡ getD words (x / 2) 0 = at-number words (row-place .post) (x / 2) (row-place .stands) i in
+        let e : getD w (row * 64 + getD w ASCII-START 0 + 1 + x / 2) 0 ≡ getD words (x / 2) 0 =
+        at-number words (row-place .post) (x / 2) (row-place .stands) i in
         rw (row-at, lt-ltb x 128 b, e) (ap (λ n. ok (n ∷ [])) (half-is words x))
 
     row-past : (x : ℕ) → 128 ≤ x → rowTarget w row x ≡ no STATE 0
@@ -251,7 +255,8 @@ module _ (t : Table) (h : Fields t) (r : Rules t) (w : List ℕ) (k : Held t w) 
   -- Wide rows
 
   -- the list of places leads to a wide row
-  pub wide-row : (row : ℕ) → row < length (t .wide) → (p : ℕ) × (wideRowAt w row ≡ place.At p) × Within w (getD w 6 0) p (wideWords (getD (t .wide) row []))
+  pub wide-row : (row : ℕ) → row < length (t .wide)
+      → (p : ℕ) × (wideRowAt w row ≡ place.At p) × Within w (getD w ACCEPTS-START 0) p (wideWords (getD (t .wide) row []))
   wide-row row l = let q = listed-is (k .wide) (k .wide-places) row [] l (omega arith) in (q .0, wide-listed t w k row ∙ q .1, q .2)
 
   wide-target : (row : ℕ) → row < length (t .wide) → (x : ℕ) → wideTarget w row x ≡ ok (goalAt 65535 (getD (t .wide) row []) x ∷ [])
@@ -261,7 +266,7 @@ module _ (t : Table) (h : Fields t) (r : Rules t) (w : List ℕ) (k : Held t w) 
       let rs = getD (t .wide) row [] in
       let v = all-map RangeFields (λ y. target (y .goal) ≡ ok (y .goal ∷ [])) (λ y b. target-is (y .goal) b) rs
       (all-nth (All RangeFields) (t .wide) row [] (h .wide) l) in
-      rw (q .1) (search-goal w x target 65535 (no NOT-TABLE 0) rs (getD w 6 0) (q .0) (inside (k .wide)) (q .2) v)
+      rw (q .1) (search-goal w x target 65535 (no NOT-TABLE 0) rs (getD w ACCEPTS-START 0) (q .0) (inside (k .wide)) (q .2) v)
 
   pub char-is : (s x : ℕ) → charTarget w s x ≡ charTargetOf t s x
   char-is s x = go (ltb x 128) refl
@@ -279,7 +284,8 @@ module _ (t : Table) (h : Fields t) (r : Rules t) (w : List ℕ) (k : Held t w) 
   -- Escape rows
 
   -- and to the escape row of a state
-  escape-row : (s : ℕ) → s < length (t .states) → (p : ℕ) × (listedAt w ESCAPES-START s ≡ place.At p) × Within w (getD w 8 0) p (escapeWords (escapeOf t s))
+  escape-row : (s : ℕ) → s < length (t .states)
+      → (p : ℕ) × (listedAt w ESCAPES-START s ≡ place.At p) × Within w (getD w CONTINUATIONS-START 0) p (escapeWords (escapeOf t s))
   escape-row s l =
       let q = listed-is (k .escapes) (k .escape-places) s (record { eof = NONE; ranges = [] }) (omega (arith, r .rule7)) (omega arith) in
       (q .0, escapes-listed t w k s ∙ q .1, q .2)
@@ -295,6 +301,6 @@ module _ (t : Table) (h : Fields t) (r : Rules t) (w : List ℕ) (k : Held t w) 
       let e = escapeOf t s in
       let a = q .2 in
       let v = all-of (λ y. ok (y .goal ∷ []) ≡ ok (y .goal ∷ [])) (λ y. refl) (e .ranges) in
-      let i : Within w (getD w 8 0) (q .0 + 1) (counted rangeWords (e .ranges)) =
+      let i : Within w (getD w CONTINUATIONS-START 0) (q .0 + 1) (counted rangeWords (e .ranges)) =
       record { post = a .post; stands = on (e .eof ∷ []) (counted rangeWords (e .ranges) ++ a .post) (a .stands); ends = omega (arith, a .ends) } in
-      rw (q .1) (search-goal w x (λ c. ok (c ∷ [])) NONE (no NOT-TABLE 0) (e .ranges) (getD w 8 0) (q .0 + 1) (inside (k .escapes)) i v))
+      rw (q .1) (search-goal w x (λ c. ok (c ∷ [])) NONE (no NOT-TABLE 0) (e .ranges) (getD w CONTINUATIONS-START 0) (q .0 + 1) (inside (k .escapes)) i v))

@@ -8,6 +8,7 @@ use mathlib.Core.Logic.{inl, inr}
 use lib.Dec.{leb}
 use lib.ListN.{length, getD}
 use borrow.Author.Tests.{le-leb, lt-ltb, eq-eqb}
+use Rattle.refusal.specs.Header.{MODES-START, STATES-START}
 use Rattle.refusal.specs.Said.{ok, NOT-TABLE}
 use Rattle.refusal.specs.Fixed.{NONE}
 use Rattle.refusal.specs.Lists.{pick, some, every, each}
@@ -19,9 +20,10 @@ use Rattle.look_mode_lists.specs.Counts.{countsFor, countsWith, asked, modeStat
 use Rattle.law_tables.specs.Table.{Table, Fields, All, Start, modeWords}
 use Rattle.law_tables.specs.Rules.{Rules, NoneOr}
 use Rattle.law_tables.proofs.Codec.{At, same, on, at-head}
+use Rattle.law_tables.proofs.Sizes.{sized, all-of}
 use Rattle.law_tables.proofs.Records.{or-right}
 use Rattle.law_tables.proofs.Judged.{each-word}
-use Rattle.law_lookups.proofs.Stands.{counts, opens, inside, sized, all-of}
+use Rattle.law_lookups.proofs.Stands.{counts, opens, inside}
 use Rattle.law_lookups.proofs.Held.{Held}
 use Rattle.law_lookups.proofs.Looked.{count-is}
 
@@ -46,7 +48,7 @@ none-or-up-to n x (inl h) = ap (λ b. leb x n || b) (eq-eqb x NONE h) ∙ or-rig
 none-or-up-to n x (inr h) = let l : x ≤ n = omega arith in rw (le-leb x n l)
 
 module _ (t : Table) (h : Fields t) (r : Rules t) (w : List ℕ) (k : Held t w) where
-  starts : numbers w (length (t .modes)) (getD w 1 0 + 1) ≡ t .modes
+  starts : numbers w (length (t .modes)) (getD w MODES-START 0 + 1) ≡ t .modes
   starts =
       let z = k .modes in
       let a = on (length (t .modes) ∷ []) (each modeWords (t .modes) ++ z .post) (z .stands) in
@@ -57,9 +59,9 @@ module _ (t : Table) (h : Fields t) (r : Rules t) (w : List ℕ) (k : Held t w) 
   unfolding ofModes modesUpTo
   of-modes limit f o e =
       let z = k .modes in
-      let b : length (t .modes) + getD w 1 0 < getD w 2 0 =
+      let b : length (t .modes) + getD w MODES-START 0 < getD w STATES-START 0 =
       omega (arith, z .ends, sized modeWords 1 (t .modes) (all-of (λ x. length (modeWords x) ≡ 1) (λ x. refl) (t .modes))) in
-      let i : every (upTo limit) (numbers w (length (t .modes)) (getD w 1 0 + 1)) ≡ true = ap (every (upTo limit)) starts ∙ e in
+      let i : every (upTo limit) (numbers w (length (t .modes)) (getD w MODES-START 0 + 1)) ≡ true = ap (every (upTo limit)) starts ∙ e in
       rw (lt-ltb _ _ (k .long), lt-ltb _ _ (opens z), le-leb _ _ (inside z), counts z, lt-ltb _ _ b, i) (ap f starts)
 
   allowed : every (upTo 65535) (t .modes) ≡ true

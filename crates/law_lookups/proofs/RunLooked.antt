@@ -9,6 +9,7 @@ use lib.Dec.{ltb}
 use lib.ListN.{length, getD, take}
 use lib.Seq.{take-append-add}
 use borrow.Author.Tests.{ltb-true, ltb-false}
+use Rattle.refusal.specs.Header.{ASCII-START}
 use Rattle.refusal.specs.Said.{STATE}
 use Rattle.refusal.specs.Lists.{pick}
 use Rattle.run_shape.specs.Shape.{Shape, none, any, until, ranges, Got, run, refused, shape, held}
@@ -68,7 +69,7 @@ module _ (t : Table) (h : Fields t) (r : Rules t) (w : List ℕ) (k : Held t w) 
     shaped = getD (t .runs) s none
 
     -- the list of places leads to the run
-    run-at : (p : ℕ) × (runPlace w s ≡ place.At p) × Within w (getD w 4 0) p (runWords shaped)
+    run-at : (p : ℕ) × (runPlace w s ≡ place.At p) × Within w (getD w ASCII-START 0) p (runWords shaped)
     run-at = let q = listed-is (k .runs) (k .run-places) s none there (run-word shaped) in (q .0, runs-listed t w k s ∙ q .1, q .2)
 
     -- rule 4
@@ -81,7 +82,7 @@ module _ (t : Table) (h : Fields t) (r : Rules t) (w : List ℕ) (k : Held t w) 
     unfolding runOf follow runIn
     run-read =
         let q = run-at in
-        let e : readAt (take (getD w 4 0) w) (q .0) ≡ run (held shaped) =
+        let e : readAt (take (getD w ASCII-START 0) w) (q .0) ≡ run (held shaped) =
         shape-reads shaped _ (all-nth RunFields (t .runs) s none (h .runs) there) (cut (runWords shaped) (q .2)) in
         rw (q .1, e) (ap (λ x. run (held x)) classified)
 

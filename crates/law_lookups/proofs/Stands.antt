@@ -1,13 +1,16 @@
 -- Where the records of a section stand in a list of numbers: behind its count, one behind the other. Assumes nothing.
-use Prim.Native.Nat.{ℕ, zero, suc, _+_, _-_, _*_, _≤_, _<_}
-use native.Mathlib.Nat.{not-suc-le-zero, le-of-suc-le-suc, suc-mul, zero-mul}
+use Prim.Native.Nat.{ℕ, zero, suc, _+_, _≤_, _<_}
+use native.Mathlib.Nat.{not-suc-le-zero, le-of-suc-le-suc}
 use native.Mathlib.Omega.{arith}
 use mathlib.Core.Path.{_≡_, refl, sym, ap, subst, _∙_}
 use mathlib.Core.List.{List, [], _∷_, _++_, append-assoc}
 use lib.ListN.{length, getD, take, drop, length-append, List·getD-append}
-use lib.Seq.{getD-append-add, take-append-add}
+use lib.Seq.{getD-append-add}
 use Rattle.refusal.specs.Lists.{each}
 use Rattle.law_tables.specs.Table.{counted, All}
+use Rattle.refusal.specs.Header.{HEADER-NUMBERS}
+use Rattle.law_tables.proofs.Sizes.{same-length}
+use Rattle.law_tables.proofs.Normal.{offsets}
 use Rattle.law_tables.proofs.Codec.{At, same, on, to, at-length, at-head}
 
 -- the words of record i stand between those of the records before it and those behind it
@@ -65,21 +68,6 @@ module _ {A : Type 0} {w : List ℕ} {s e : ℕ} {f : A → List ℕ} {xs : List
       ap length (nth-each f xs i d h) ∙ length-append before (x ++ behind) ∙ ap (λ m. length before + m) (length-append x behind) in
       record { post = behind ++ z .post; stands = c; ends = omega (arith, z .ends, n) }
 
--- what holds of everything holds of all in a list
-pub all-of : {A : Type 0} (P : A → Type 0) → ((x : A) → P x) → (xs : List A) → All P xs
-unfolding All
-all-of P h [] = tt
-all-of P h (x ∷ xs) = (h x, all-of P h xs)
-
--- records of one size
-pub sized : {A : Type 0} (f : A → List ℕ) (n : ℕ) (xs : List A) → All (λ x. length (f x) ≡ n) xs → length (each f xs) ≡ length xs * n
-unfolding each All
-sized f n [] h = sym (zero-mul n)
-sized f n (x ∷ xs) h = omega (arith, h .0, sized f n xs (h .1), length-append (f x) (each f xs), suc-mul (length xs) n)
-
-pub threes : {A : Type 0} (f : A → List ℕ) → ((x : A) → length (f x) ≡ 3) → (xs : List A) → length (each f xs) ≡ length xs * 3
-threes f h xs = sized f 3 xs (all-of (λ x. length (f x) ≡ 3) h xs)
-
 -- what holds of all holds of those in front, and of each
 pub all-take : {A : Type 0} (P : A → Type 0) (xs : List A) (i : ℕ) → All P xs → All P (take i xs)
 unfolding All
@@ -99,15 +87,31 @@ pub record Listed {A : Type 0} (w : List ℕ) (s list : ℕ) (f : A → List ℕ
   pub there : list + length xs ≤ length w
   pub leads : (i : ℕ) → i < length xs → getD w (list + i) 0 ≡ s + 1 + length (each f (take i xs))
 
--- a part of a list that is copied in front of others stands there as it stood
-pub kept : {w words : List ℕ} (l post rest : List ℕ) {m p : ℕ} (x : ℕ) → At w m (take x words ++ rest) → At words p (l ++ post) → p + length l ≤ x
-    → At w (p + m) (l ++ (take (x - (p + length l)) post ++ rest))
-kept {w} {words} l post rest {m} {p} x a b h =
-    let k = x - (p + length l) in
-    let n : x ≡ length (b .pre) + (length l + k) = omega (arith, b .here) in
-    let e : take x words ≡ b .pre ++ (l ++ take k post) =
-    ap (λ v. take x v) (b .whole) ∙ ap (λ v. take v (b .pre ++ (l ++ post))) n ∙ take-append-add (b .pre) (l ++ post) (length l + k)
-    ∙ ap (λ v. b .pre ++ v) (take-append-add l post k) in
-    let c = same a (ap (λ v. v ++ rest) e ∙ append-assoc (b .pre) (l ++ take k post) rest) in
-    let q : m + length (b .pre) ≡ p + m = omega (arith, b .here) in
-    same (to (on (b .pre) ((l ++ take k post) ++ rest) c) q) (append-assoc l (take k post) rest)
+-- such a list stands in the room, where records that are each as long were written
+module _ {A : Type 0} (f : A → List ℕ) where
+  pub offsets-length : (xs : List A) (at : ℕ) → length (offsets f xs at) ≡ length xs
+  offsets-length [] at = refl
+  offsets-length (x ∷ xs) at = ap suc (offsets-length xs (at + length (f x)))
+
+  offset-is : (xs : List A) (at i : ℕ) → i < length xs → getD (offsets f xs at) i 0 ≡ at + HEADER-NUMBERS + length (each f (take i xs))
+  unfolding each
+  offset-is [] at i h = absurd (not-suc-le-zero h)
+  offset-is (x ∷ xs) at zero h = omega arith
+  offset-is (x ∷ xs) at (suc i) h = omega (arith, offset-is xs (at + length (f x)) i (le-of-suc-le-suc h), length-append (f x) (each f (take i xs)))
+
+  pub listed : {w : List ℕ} {p : ℕ} (h : A → List ℕ) (xs : List A) (at : ℕ) (post : List ℕ) {s list : ℕ} → ((x : A) → length (h x) ≡ length (f x))
+      → At w p (offsets f xs (at + 1) ++ post) → p ≡ list → at + HEADER-NUMBERS ≡ s → Listed w s list h xs
+  listed {w = w} h xs at post {s} {list} e a q r =
+      let b = to a q in
+      let l = offsets f xs (at + 1) in
+      let n = offsets-length xs (at + 1) in
+      record {
+        there = omega (arith, at-length b, length-append l post);
+        leads = λ i k. at-number l post i b (omega arith) ∙ offset-is xs (at + 1) i k ∙ omega (arith, same-length h f e (take i xs));
+      }
+
+-- what stands in words that stand in the room
+pub nested : {w words : List ℕ} {m p : ℕ} (l post rest : List ℕ) → At w m (words ++ rest) → At words p (l ++ post) → At w (p + m) (l ++ (post ++ rest))
+nested l post rest a b =
+    let c = same a (ap (λ v. v ++ rest) (b .whole) ∙ append-assoc (b .pre) (l ++ post) rest) in
+    same (to (on (b .pre) ((l ++ post) ++ rest) c) (omega (arith, b .here))) (append-assoc l post rest)

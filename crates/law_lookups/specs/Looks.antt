@@ -2,7 +2,7 @@
 -- room, s a state, x a symbol. Assumes nothing.
 use Prim.Native.Nat.{ℕ}
 use mathlib.Core.Path.{_≡_}
-use mathlib.Core.List.{List, [], _∷_}
+use mathlib.Core.List.{List, [], _∷_, map}
 use lib.Dec.{ltb, leb, eqb}
 use lib.ListN.{length, getD, take, drop}
 use Rattle.refusal.specs.Said.{Said, ok, no, STATE}
@@ -12,7 +12,8 @@ use Rattle.run_shape.specs.Shape.{Got, run, refused, held}
 use Rattle.run_shape.specs.Classify.{classification}
 use Rattle.run_shape.specs.Scan.{skipped, scanSaid, scannedBy}
 use Rattle.room_fill.specs.Room.{flag}
-use Rattle.law_tables.specs.Table.{Table, State, Range, Accept, Escape, Config, Continuation, actionWords, contextWords, configWords}
+use Rattle.law_tables.specs.Table.{Table, State, Range, Accept, Escape, Continuation, actionWords, contextWords, configWords}
+use Rattle.law_tables.specs.Normal.{normalConfig}
 use Rattle.law_tables.specs.Rules.{absent, rowOf}
 use Rattle.look_modes.specs.Start.{compiled, modeStart}
 use Rattle.look_modes.specs.Modes.{stateCount, hasCompiledModes}
@@ -87,10 +88,6 @@ abbrev pub continuationRecordOf : Table → ℕ → Said
 continuationRecordOf t i =
     pick (ltb i (length (t .continuations))) (ok (length (continuation t i .contexts) ∷ length (continuation t i .configs) ∷ [])) (ok [])
 
--- a config with its flags made 0 or 1
-abbrev pub plainConfig : Config → Config
-plainConfig x = record { state = x .state; rule = x .rule; flag = flag (x .flag); other = flag (x .other); context = x .context; actions = x .actions }
-
 -- n numbers of a room, from a place on
 abbrev pub part : List ℕ → ℕ → ℕ → List ℕ
 part w from n = take n (drop from w)
@@ -116,4 +113,4 @@ pub record Looks (t : Table) (w : List ℕ) : Type 0 where
   pub continuation-record : (i : ℕ) → configs.recordOf w i ≡ continuationRecordOf t i
   pub continuation-contexts : (i : ℕ) → part w (configs.contextsFrom w i) (configs.contextsLength w i) ≡ each contextWords (continuation t i .contexts)
   pub continuation-configs : (i : ℕ)
-      → part w (configs.configsFrom w i) (configs.configsLength w i) ≡ each (λ x. configWords (plainConfig x)) (continuation t i .configs)
+      → part w (configs.configsFrom w i) (configs.configsLength w i) ≡ each configWords (map normalConfig (continuation t i .configs))

@@ -3,7 +3,7 @@
 use Prim.Native.Nat.{ℕ, _+_, _-_, _≤_, _<_}
 use native.Mathlib.Omega.{arith}
 use mathlib.Core.Path.{_≡_, refl, sym, ap, subst, _∙_}
-use mathlib.Core.List.{List, [], _∷_, _++_, map, append-assoc}
+use mathlib.Core.List.{List, _++_, append-assoc}
 use mathlib.Core.Bool.{true}
 use lib.ListN.{length, take, length-map, length-append, length-replicate}
 use lib.Seq.{take-at}
@@ -11,7 +11,7 @@ use borrow.Author.Tests.{le-ltb, eq-eqb}
 use Rattle.refusal.proofs.Lists.{equal-same}
 use Rattle.buffer.specs.declared.Written.the-variants.{Numbers}
 use Rattle.buffer.specs.Over.{zeros, padded}
-use Rattle.room_fill.specs.Room.{roomFor, numbers}
+use Rattle.room_fill.specs.Room.{roomFor}
 use Rattle.room_fill.proofs.Sizes.{numbers-length}
 use Rattle.room_decode.specs.declared.Decoded.the-variants as decoded
 use Rattle.room_decode.specs.Decode.{judged, decodedFrom, decodeOf, keptFrom, roomOf}
@@ -25,16 +25,11 @@ use Rattle.law_tables.specs.Rules.{Rules, Good, NoneOr, Searchable, Numbered, R
 use Rattle.law_tables.proofs.Codec.{at-head}
 use Rattle.law_tables.proofs.Placed.{modes-stand, states-stand}
 use Rattle.law_tables.proofs.Obeyed.{obeys-accepted}
-use Rattle.law_round_trip.specs.Normal.{normalAccept, normalConfig, normalContinuation, normal}
+use Rattle.law_tables.specs.Normal.{normalAccept, normalConfig, normalContinuation, normal}
 use Rattle.law_round_trip.specs.Trip.{Trip, Left}
-use Rattle.law_round_trip.proofs.Normal.{normal-fields, normal-size, offsets, numbersOf, numbers-are, same-numbers}
+use Rattle.law_tables.proofs.Normal.{all-to, normal-fields, normal-size, offsets, numbersOf, numbers-are, same-numbers}
 
 -- The rules do not look at flags
-
-all-to : {A : Type 0} (P Q : A → Type 0) (g : A → A) → ((x : A) → P x → Q (g x)) → (xs : List A) → All P xs → All Q (map g xs)
-unfolding All
-all-to P Q g k [] v = tt
-all-to P Q g k (x ∷ xs) v = (k x (v .0), all-to P Q g k xs (v .1))
 
 normal-rules : (t : Table) → Rules t → Rules (normal t)
 unfolding normal

@@ -11,7 +11,7 @@ use Rattle.room_judge.specs.Judge.{wordsPart, accepted, isTable}
 use Rattle.room_encode.specs.Encode.{encodeOf, outOf}
 use Rattle.law_tables.specs.Table.{Table, Fields, wordsOf}
 use Rattle.law_tables.specs.Rules.{Rules}
-use Rattle.law_round_trip.specs.Normal.{normal}
+use Rattle.law_tables.specs.Normal.{normal}
 
 pub record Trip (w : List ℕ) (n : ℕ) : Type 0 where
   -- the words are those of a table that obeys the rules

@@ -14,3 +14,5 @@ pub mod Fronted
 pub mod Due
 pub mod Fronts
 pub mod Refusals
+pub mod Sizes
+pub mod Normal

@@ -1,4 +1,5 @@
 pub mod Table
+pub mod Normal
 pub mod Whole
 pub mod Rules
 pub mod Places

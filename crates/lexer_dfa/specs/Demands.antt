@@ -31,7 +31,7 @@ use Rattle.law_tables.specs.Table.{Table, wordsOf, Fields}
 use Rattle.law_tables.specs.Rules.{Rules}
 use Rattle.law_tables.specs.Whole.{Fit}
 use Rattle.law_tables.specs.Fronts.{Exactly}
-use Rattle.law_round_trip.specs.Normal.{normal}
+use Rattle.law_tables.specs.Normal.{normal}
 use Rattle.room_decode.specs.declared.Decoded.{Decoded}
 use Rattle.room_decode.specs.Decode as decoding
 use Rattle.room_decode.proofs.decode.Reads as decode

@@ -28,7 +28,8 @@ use Rattle.law_tables.specs.Places.{sectionsOf, brokenOf}
 use Rattle.law_tables.proofs.Codec.{on, at-head}
 use Rattle.law_tables.proofs.Obeyed.{obeys-accepted}
 use Rattle.law_lookups.specs.Looks.{goalAt, stateOf, charTargetOf}
-use Rattle.law_lookups.proofs.Stands.{threes, inside, all-nth}
+use Rattle.law_tables.proofs.Sizes.{threes}
+use Rattle.law_lookups.proofs.Stands.{inside, all-nth}
 use Rattle.law_lookups.proofs.Held.{Held, held}
 use Rattle.law_lookups.proofs.Looked.{state-place, state-at, state-none, of-state, number-wide, has-rows, wide-row, char-is}
 use Rattle.room_coverage.specs.Coverage.{lives, notDead, goesOn, count, covered, coverageOf}

@@ -3,47 +3,40 @@ use mathlib.Core.Path.{_≡_, refl, sym, ap, _∙_}
 use mathlib.Core.List.{List, [], _∷_, _++_, map, append-assoc, append-nil}
 use mathlib.Core.Bool.{Bool, true, false}
 use Prim.Native.Nat.{ℕ, suc, _+_, _*_, _-_}
-use native.Mathlib.Nat.{suc-mul, zero-mul}
 use native.Mathlib.Omega.{arith}
 use lib.Dec.{eqb}
 use lib.ListN.{length, getD, take, length-append, length-map}
 use lib.Seq.{take-at}
 use Rattle.refusal.specs.Fixed.{tag}
 use Rattle.refusal.specs.Lists.{pick, each}
+use Rattle.refusal.specs.Header.{HEADER-NUMBERS}
 use Rattle.word_reader.specs.declared.Place.{Place}
 use Rattle.word_layout.specs.declared.Layout.the-variants.{Found}
 use Rattle.word_layout.specs.Layout.{layoutOf}
 use Rattle.room_fill.specs.Room.{startsFrom, starts, copied, flag, renewed, acceptMade, configMade}
 use Rattle.room_fill.specs.Room.{continuationMade, made, shifted, placed, four, header, numbers}
-use Rattle.law_tables.specs.Table.{Table, Action, Accept, Context, Config, Continuation, Fields, ContinuationFields, All, counted}
-use Rattle.law_tables.specs.Table.{sectionWords, wordsOf, modeWords, stateWords, runWords, asciiWords, wideWords, actionWords}
-use Rattle.law_tables.specs.Table.{acceptWords, escapeWords, contextWords, configWords, continuationWords}
+use Rattle.law_tables.specs.Table.{Table, Accept, Config, Continuation, Fields, ContinuationFields, All, each, counted, sectionWords, wordsOf, modeWords, stateWords, runWords, asciiWords, wideWords, actionWords, acceptWords, escapeWords, contextWords, configWords, continuationWords}
 use Rattle.law_tables.specs.Places.{sectionEnd, statesPlace, runsPlace, asciiPlace, widePlace, acceptsPlace, escapesPlace, continuationsPlace, sectionsOf}
 use Rattle.law_tables.proofs.Codec.{At, Codec, start, same, on, to, at-length, at-head, at-drop}
+use Rattle.law_tables.proofs.Sizes.{counted-map, same-length, threes}
 use Rattle.law_tables.proofs.Runs.{run-codec}
 use Rattle.law_tables.proofs.Records.{wide-row, accept, escape, config, continuation, all-always}
-use Rattle.law_tables.proofs.Placed.{fromContinuations, fromEscapes, fromAccepts, fromAscii, runs-stand, wide-stand}
-use Rattle.law_tables.proofs.Placed.{accepts-stand, escapes-stand, continuations-stand, layout-is}
-use Rattle.law_round_trip.specs.Normal.{normalAccept, normalConfig, normalContinuation, normal}
+use Rattle.law_tables.proofs.Placed.{fromContinuations, fromEscapes, fromAccepts, fromAscii, runs-stand, wide-stand, accepts-stand, escapes-stand, continuations-stand, layout-is}
+use Rattle.law_tables.specs.Normal.{normalAccept, normalConfig, normalContinuation, normal}
 
 -- Lengths
 
 module _ {A : Type 0} (f : A → List ℕ) (g : A → A) (h : (x : A) → length (f (g x)) ≡ length (f x)) where
-  pub each-size : (xs : List A) → length (each f (map g xs)) ≡ length (each f xs)
-  unfolding each
-  each-size [] = refl
-  each-size (x ∷ xs) = omega (arith, length-append (f (g x)) (each f (map g xs)), length-append (f x) (each f xs), h x, each-size xs)
-
   pub counted-size : (xs : List A) → length (counted f (map g xs)) ≡ length (counted f xs)
-  counted-size xs = ap suc (each-size xs)
+  counted-size xs = ap length (counted-map f g xs) ∙ ap suc (same-length (λ x. f (g x)) f h xs)
 
-accept-size : (x : Accept) → length (acceptWords (normalAccept x)) ≡ length (acceptWords x)
+pub accept-size : (x : Accept) → length (acceptWords (normalAccept x)) ≡ length (acceptWords x)
 accept-size x = refl
 
 config-size : (x : Config) → length (configWords (normalConfig x)) ≡ length (configWords x)
 config-size x = refl
 
-continuation-size : (x : Continuation) → length (continuationWords (normalContinuation x)) ≡ length (continuationWords x)
+pub continuation-size : (x : Continuation) → length (continuationWords (normalContinuation x)) ≡ length (continuationWords x)
 continuation-size x =
     let a = counted contextWords (x .contexts) in
     omega (
@@ -57,10 +50,11 @@ pub normal-sections : (t : Table) → sectionsOf (normal t) ≡ sectionsOf t
 unfolding normal
 normal-sections t = rw (counted-size acceptWords normalAccept accept-size (t .accepts))
 
-all-map : {A : Type 0} (P : A → Type 0) (g : A → A) → ((x : A) → P x → P (g x)) → (xs : List A) → All P xs → All P (map g xs)
+-- what holds of all holds of those that they become
+pub all-to : {A : Type 0} (P Q : A → Type 0) (g : A → A) → ((x : A) → P x → Q (g x)) → (xs : List A) → All P xs → All Q (map g xs)
 unfolding All
-all-map P g k [] v = tt
-all-map P g k (x ∷ xs) v = (k x (v .0), all-map P g k xs (v .1))
+all-to P Q g k [] v = tt
+all-to P Q g k (x ∷ xs) v = (k x (v .0), all-to P Q g k xs (v .1))
 
 pub normal-fields : (t : Table) → Fields t → Fields (normal t)
 unfolding normal
@@ -70,7 +64,7 @@ normal-fields t h = record {
   runs = h .runs;
   ascii = h .ascii;
   wide = h .wide;
-  continuations = all-map ContinuationFields normalContinuation (λ x v. v) (t .continuations) (h .continuations);
+  continuations = all-to ContinuationFields ContinuationFields normalContinuation (λ x v. v) (t .continuations) (h .continuations);
 }
 
 -- the normal form is read as the table was, section by section
@@ -119,7 +113,7 @@ normal-twice t = λ i. record {
 -- where records that stand one behind the other start in the room
 abbrev pub offsets : {A : Type 0} → (A → List ℕ) → List A → ℕ → List ℕ
 offsets f [] at = []
-offsets f (x ∷ xs) at = (at + 9) ∷ offsets f xs (at + length (f x))
+offsets f (x ∷ xs) at = (at + HEADER-NUMBERS) ∷ offsets f xs (at + length (f x))
 
 module _ {A : Type 0} {r : List ℕ → ℕ → Place} {f : A → List ℕ} {G : A → Type 0} (c : Codec A r f G) where
   pub starts-are : (xs : List A) (w : List ℕ) (at : ℕ) (post : List ℕ) → All G xs → At w at (each f xs ++ post)
@@ -129,7 +123,7 @@ module _ {A : Type 0} {r : List ℕ → ℕ → Place} {f : A → List ℕ} {G :
   starts-are (x ∷ xs) w at post v a =
       let b = same a (append-assoc (f x) (each f xs) post) in
       rw (c .complete x w at (each f xs ++ post) (v .0) b)
-      (ap (λ l. (at + 9) ∷ l) (starts-are xs w (at + length (f x)) post (v .1) (on (f x) (each f xs ++ post) b)))
+      (ap (λ l. (at + HEADER-NUMBERS) ∷ l) (starts-are xs w (at + length (f x)) post (v .1) (on (f x) (each f xs ++ post) b)))
 
   -- what is written for each record is that record changed: so for all of them
   module _ (norm : List ℕ → ℕ → List ℕ) (g : A → A)
@@ -157,16 +151,6 @@ pub copied-is : {w : List ℕ} {at : ℕ} (l post : List ℕ) (n : ℕ) → At w
 unfolding copied
 copied-is l post n a e = ap (take n) (at-drop a) ∙ take-at l post n e
 
-actions-size : (xs : List Action) → length (each actionWords xs) ≡ length xs * 3
-unfolding each
-actions-size [] = sym (zero-mul 3)
-actions-size (x ∷ xs) = omega (arith, actions-size xs, suc-mul (length xs) 3)
-
-pub contexts-size : (xs : List Context) → length (each contextWords xs) ≡ length xs * 3
-unfolding each
-contexts-size [] = sym (zero-mul 3)
-contexts-size (x ∷ xs) = omega (arith, contexts-size xs, suc-mul (length xs) 3)
-
 -- the word k places on
 pub at-nth : {w : List ℕ} {at : ℕ} (front : List ℕ) (x : ℕ) (r : List ℕ) → At w at (front ++ (x ∷ r)) → getD w (at + length front) 0 ≡ x
 at-nth front x r a = at-head (on front (x ∷ r) a)
@@ -179,7 +163,7 @@ accept-anew x w at post a =
     let e0 = at-head a in
     let e1 : getD w (at + 1) 0 ≡ x .consumed = at-nth (x .rule ∷ []) (x .consumed) (body ++ post) a in
     let e2 : getD w (at + 2) 0 ≡ n = at-nth (x .rule ∷ x .consumed ∷ []) n (each actionWords (x .actions) ++ post) a in
-    let s : length body ≡ n * 3 + 1 = omega (arith, actions-size (x .actions)) in
+    let s : length body ≡ n * 3 + 1 = omega (arith, threes actionWords (λ y. refl) (x .actions)) in
     let t : copied w (at + 2) (n * 3 + 1) ≡ body = copied-is body post (n * 3 + 1) (on (x .rule ∷ x .consumed ∷ []) (body ++ post) a) s in
     rw (e0, e1, e2, t)
 
@@ -194,7 +178,7 @@ config-anew x w at post a =
     let e2 : getD w (at + 2) 0 ≡ x .flag = at-nth (x .state ∷ x .rule ∷ []) _ _ a in
     let e3 : getD w (at + 3) 0 ≡ x .other = at-nth (x .state ∷ x .rule ∷ x .flag ∷ []) _ _ a in
     let e5 : getD w (at + 5) 0 ≡ n = at-nth (x .state ∷ x .rule ∷ x .flag ∷ x .other ∷ x .context ∷ []) n rest a in
-    let s : length body ≡ n * 3 + 2 = omega (arith, actions-size (x .actions)) in
+    let s : length body ≡ n * 3 + 2 = omega (arith, threes actionWords (λ y. refl) (x .actions)) in
     let t : copied w (at + 4) (n * 3 + 2) ≡ body = copied-is body post (n * 3 + 2) (on (x .state ∷ x .rule ∷ x .flag ∷ x .other ∷ []) (body ++ post) a) s in
     rw (e0, e1, e2, e3, e5, t)
 
@@ -206,7 +190,7 @@ continuation-anew x w at post a =
     let cs = counted contextWords (x .contexts) in
     let ds = counted configWords (x .configs) in
     let b = same a (append-assoc cs ds post) in
-    let s : length cs ≡ n * 3 + 1 = omega (arith, contexts-size (x .contexts)) in
+    let s : length cs ≡ n * 3 + 1 = omega (arith, threes contextWords (λ y. refl) (x .contexts)) in
     let t : copied w at (n * 3 + 1) ≡ cs = copied-is cs (ds ++ post) (n * 3 + 1) b s in
     let d = to (on cs (ds ++ post) b) (ap (λ m. at + m) s) in
     let u = section-anew config configMade normalConfig (λ y v q p _. config-anew y v q p) (x .configs) w (at + (n * 3 + 1)) post (all-always (x .configs)) d in
@@ -261,7 +245,7 @@ module _ {A : Type 0} {r : List ℕ → ℕ → Place} {f : A → List ℕ} {G :
 offsets-same : {A : Type 0} (f : A → List ℕ) (g : A → A) → ((x : A) → length (f (g x)) ≡ length (f x)) → (xs : List A) (at : ℕ)
     → offsets f (map g xs) at ≡ offsets f xs at
 offsets-same f g k [] at = refl
-offsets-same f g k (x ∷ xs) at = rw (k x) (ap (λ l. (at + 9) ∷ l) (offsets-same f g k xs (at + length (f x))))
+offsets-same f g k (x ∷ xs) at = rw (k x) (ap (λ l. (at + HEADER-NUMBERS) ∷ l) (offsets-same f g k xs (at + length (f x))))
 
 -- the numbers that a table fills a room with
 unfoldable pub numbersOf : Table → List ℕ
@@ -285,7 +269,7 @@ numbers-are t h =
       section-starts continuation (t .continuations) w (continuationsPlace t) [] (h .continuations) (continuations-stand t),
     )
 
-words-size : (t : Table) → length (wordsOf t) ≡ sectionEnd (continuationsPlace t) continuationWords (t .continuations)
+pub words-size : (t : Table) → length (wordsOf t) ≡ sectionEnd (continuationsPlace t) continuationWords (t .continuations)
 words-size t = omega (arith, at-length (continuations-stand t), length-append (counted continuationWords (t .continuations)) [])
 
 pub normal-size : (t : Table) → length (wordsOf (normal t)) ≡ length (wordsOf t)
