@@ -4,7 +4,6 @@ use mathlib.Core.Path.{_≡_, refl, sym, ap, ap₂, subst, _∙_}
 use mathlib.Core.Logic.{⊎-elim}
 use mathlib.Core.Bool.{Bool, true, false, _&&_, _||_}
 use mathlib.Core.List.{List, [], _∷_, _++_}
-use native.Mathlib.Nat.{add-zero}
 use native.Mathlib.Omega.{arith}
 use borrow.Author.Needs.{needs}
 use lib.Dec.{eqb, ltb}
@@ -12,8 +11,7 @@ use lib.ListN.{length, getD, set, length-set}
 use Rattle.refusal.specs.Lists.{pick, each}
 use Rattle.law_tables.specs.Table.{Range}
 use Rattle.buffer.specs.Over.{Put}
-use Rattle.buffer.proofs.Overs.{lay-none}
-use Rattle.buffer.proofs.Going.{Going, going-start, going-done, going-turn, put-one, put-two, put-size}
+use Rattle.buffer.proofs.Going.{Going, going-start, going-done, going-turn, put-none, put-one, put-two, put-size}
 use Rattle.law_rows.specs.Row.{Row, touches, joinTo, partFrom, numbers}
 use Rattle.law_rows.proofs.Joins.{touch-or-not}
 use Rattle.law_rows.proofs.Sizes.{length-joinTo, length-part}
@@ -24,9 +22,6 @@ use Rattle.row_build.proofs.Living.{few-living}
 use Rattle.row_build.proofs.Aiming.{length-aimed, aimed-turn, aimed-done, aimed-all}
 
 -- One range is written
-
-pub put-none : (n : ℕ) (d : List ℕ) → Put [] n d n d
-put-none n d = record { next = sym (add-zero n); is = sym (lay-none n d) }
 
 module _ (n : ℕ) (d : List ℕ) (h : n + 3 ≤ length d) where
   pub second-place : (x : ℕ) → n + 1 < length (set d n x)
