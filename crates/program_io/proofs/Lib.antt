@@ -1,4 +1,4 @@
-pub mod Front
 pub mod Taken
 pub mod Decimal
+pub mod Shows
 pub mod Unique

@@ -5,15 +5,23 @@ use mathlib.Core.Path.{_≡_, _∙_}
 use mathlib.Core.List.{List}
 use borrow.Author.Needs.{needs}
 use borrow.Author.Tests.{lt-ltb, le-ltb}
-use lib.ListN.{length, take}
-use Rattle.buffer.specs.Over.{zeros}
+use lib.ListN.{length, take, drop}
+use lib.Seq.{take-append-seam}
+use Rattle.buffer.specs.Over.{Put, zeros, lay}
+use Rattle.buffer.proofs.Overs.{over-front}
 use Rattle.refusal.specs.Said.{SHORT, LIMIT}
 use Rattle.replay_io.specs.Bytes.{PutWhole}
 use Rattle.replay_io.proofs.Putting.{numbers-many}
 use Rattle.room_decode.specs.declared.Decoded.{Decoded}
 use Rattle.room_decode.specs.Decode.{decodeOf, roomOf}
-use Rattle.program_io.proofs.Front.{front}
 use Rattle.program_io.specs.Bytes.{wordsOf, refused, readOf, roomRead}
+
+-- what was put at the front of a buffer stands there
+front : {xs : List ℕ} {n : ℕ} {old new : List ℕ} → Put xs 0 old n new → length xs ≤ length old → take n new ≡ xs
+unfolding lay
+front {xs} {n} {old} p h =
+    let e : n ≡ length xs = omega (arith, p .next) in
+    rw (e, p .is, over-front xs old h) (take-append-seam xs (drop (length xs) old))
 
 -- a word has four bytes
 size : (bs : List ℕ) → length (wordsOf bs) ≡ length bs / 4

@@ -8,3 +8,7 @@ use Rattle.refusal.specs.Lists.{pick}
 unfoldable pub decimal : ℕ → ℕ → List ℕ
 decimal zero n = []
 decimal (suc k) n = pick (ltb n 10) ((48 + n) ∷ []) (decimal k (n / 10) ++ ((48 + n % 10) ∷ []))
+
+-- one of 64 bits, which has at most 20
+abbrev pub number : ℕ → List ℕ
+number n = decimal 20 n

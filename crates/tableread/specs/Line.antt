@@ -3,11 +3,11 @@ use Prim.Native.Nat.{ℕ}
 use mathlib.Core.List.{List, [], _∷_, _++_}
 use Rattle.refusal.specs.Said.{Said, ok, no}
 use Rattle.refusal.specs.Lists.{each}
-use Rattle.program_io.specs.Decimal.{decimal}
+use Rattle.program_io.specs.Decimal.{number}
 
--- a space and a number, which has 64 bits and so at most 20 digits
+-- a space and a number
 unfoldable pub spaced : ℕ → List ℕ
-spaced n = 32 ∷ decimal 20 n
+spaced n = 32 ∷ number n
 
 -- a word, numbers, and the end of the line
 unfoldable pub lineWith : List ℕ → List ℕ → List ℕ
@@ -16,4 +16,4 @@ lineWith word numbers = word ++ (each spaced numbers ++ (10 ∷ []))
 -- `ok` or `no`, and the numbers of what is said
 unfoldable pub lineOf : Said → List ℕ
 lineOf (ok numbers) = lineWith (111 ∷ 107 ∷ []) numbers
-lineOf (no number place) = lineWith (110 ∷ 111 ∷ []) (number ∷ place ∷ [])
+lineOf (no k place) = lineWith (110 ∷ 111 ∷ []) (k ∷ place ∷ [])

@@ -13,13 +13,16 @@ use lib.Dec.{ltb, eqb}
 use lib.ListN.{length, getD, drop}
 use Rattle.refusal.specs.Fixed.{NONE}
 use Rattle.refusal.specs.Lists.{pick}
-use Rattle.tableshow.specs.Shown.{Shown, joined, ifLess, ifSame}
-use Rattle.tableshow.specs.Names.{number, hexDigit, symbol, quoted, front, four, point, range}
+use Rattle.program_io.specs.Shown.{Shown}
+use Rattle.tableshow.specs.Joined.{joined, ifLess, ifSame}
+use Rattle.program_io.specs.Decimal.{number}
+use Rattle.tableshow.specs.Names.{hexDigit, symbol, quoted, front, four, point, range}
 use Rattle.tableshow.specs.Texts as t
 use Rattle.tableshow.specs.Forms.{filled, digitIn, glyphOf, numberIn, exitIn, lowIn, highIn, piece, forms, drawn, formed}
 use Rattle.tableshow.specs.Rows.{gap}
 use Rattle.tableshow.specs.Page.{recordLine, untilText, rangesLine, runText, ruleText, reasonText, startLine, tableText, endTarget, endContinuation}
-use Rattle.tableshow.proofs.Shows.{Coming, coming-start, coming-turn, coming-done, text-open, joined-3, if-same, if-not-same}
+use Rattle.program_io.proofs.Shows.{Coming, coming-start, coming-turn, coming-done, text-open}
+use Rattle.tableshow.proofs.Shows.{joined-3, if-same, if-not-same}
 
 -- Byte by byte
 

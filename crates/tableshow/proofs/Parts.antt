@@ -1,18 +1,14 @@
--- The laws of numbers on a page, and of the rows of a state. Assumes nothing.
+-- The laws of digits on a page, and of the rows of a state. Assumes nothing.
 use Prim.Native.Nat.{ℕ, zero, suc, _+_, _*_, _-_, _%_, _<_, _≤_}
 use native.Mathlib.Nat.{not-suc-le-zero, le-of-suc-le-suc}
 use native.Mathlib.Omega.{arith}
 use mathlib.Core.Path.{_≡_, refl, _∙_}
 use mathlib.Core.Bool.{Bool}
 use mathlib.Core.List.{List, [], _∷_}
-use mir.Syntax.{w64}
-use mir.Val.{Fits}
 use borrow.Author.Needs.{needs}
 use borrow.Author.Tests.{lt-ltb, le-ltb, eq-eqb, ne-eqb}
-use lib.ListN.{length, getD, take}
-use Rattle.io.specs.Digits.{digits, Fewest}
+use lib.ListN.{length, getD}
 use Rattle.refusal.specs.Said.{Said}
-use Rattle.program_io.proofs.Decimal.{found}
 use Rattle.refusal.specs.Fixed.{NONE}
 use Rattle.refusal.specs.Lists.{pick}
 use Rattle.look_accepts.specs.Record.{recordOf}
@@ -20,8 +16,9 @@ use Rattle.look_modes.specs.Start.{modeStart}
 use Rattle.look_targets.specs.Targets.{asciiTarget, eofTarget}
 use Rattle.look_accepts.specs.Accept.{acceptOf}
 use Rattle.look_continuations.specs.Continuation.{eofContinuation}
-use Rattle.tableshow.specs.Shown.{Shown, joined}
-use Rattle.tableshow.specs.Names.{number, hexDigit, range, target}
+use Rattle.program_io.specs.Shown.{Shown}
+use Rattle.tableshow.specs.Joined.{joined}
+use Rattle.tableshow.specs.Names.{hexDigit, range, target}
 use Rattle.tableshow.specs.Forms.{formed}
 use Rattle.tableshow.specs.Rows.{gap, after, ending, item, orElse, targetOn, edge, lowAfter, itemsAfter, edgeAt, lowAt, itemsAt, asciiFrom}
 use Rattle.tableshow.specs.Rows.{asciiText, rangesFrom, rowText, listed, wideAt, wideRow, firstWith, wideWith, wideText, escapesAt, escapesText}
@@ -30,14 +27,10 @@ use Rattle.tableshow.specs.Texts.{escapes-label}
 use Rattle.tableshow.specs.Page.{part, recordLine, saidLine, acceptText, headText, runText, runLine, endTarget, endContinuation, startLine}
 use Rattle.tableshow.specs.Page.{modeText, tableText, reasonText, refusalText}
 use Rattle.tableshow.proofs.Filling.{is-no-accept, is-state, is-table, is-refused, is-ascii, is-wide, is-wide-as, is-escapes}
-use Rattle.tableshow.proofs.Shows.{shows, joined-2, if-same, if-not-same, if-same-as, if-not-same-as, shown-none, Coming, coming-start}
-use Rattle.tableshow.proofs.Shows.{coming-turn, coming-last}
+use Rattle.program_io.proofs.Shows.{shown-none, Coming, coming-start, coming-turn, coming-last}
+use Rattle.tableshow.proofs.Shows.{shows, joined-2, if-same, if-not-same, if-same-as, if-not-same-as}
 
--- Numbers
-
-pub number-put : (x k : ℕ) (ds : List ℕ) {n : ℕ} {d : List ℕ} {r : ℕ} {new : List ℕ} → Shown (take k ds) n d r new →
-    take k ds ≡ digits 10 k x → Fewest 10 1 x k → Fits w64 x → Shown (number x) n d r new
-number-put x k ds p e w h = rw (found x k ds e w h) at p
+-- Digits
 
 module _ (x : ℕ) where
   pub digit-low : (d : ℕ) → d ≡ x % 16 → d < 10 → 48 + d ≡ hexDigit x
@@ -48,7 +41,7 @@ module _ (x : ℕ) where
   unfolding hexDigit
   digit-high d e h = rw (← e, le-ltb d 10 h)
 
-pub ruleset numbers = (needs, number-put, digit-low, digit-high)
+pub ruleset hexes = (needs, digit-low, digit-high)
 
 -- Items
 

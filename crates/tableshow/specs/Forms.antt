@@ -4,8 +4,9 @@ use mathlib.Core.List.{List, [], _∷_, _++_}
 use lib.Dec.{ltb, eqb}
 use lib.ListN.{drop}
 use Rattle.refusal.specs.Lists.{pick}
-use Rattle.tableshow.specs.Shown.{joined, ifLess}
-use Rattle.tableshow.specs.Names.{number, hexDigit, symbol, range}
+use Rattle.tableshow.specs.Joined.{joined, ifLess}
+use Rattle.program_io.specs.Decimal.{number}
+use Rattle.tableshow.specs.Names.{hexDigit, symbol, range}
 use Rattle.tableshow.specs.Texts as t
 
 -- a form up to its zero, with f for each byte

@@ -1,4 +1,4 @@
-pub mod Shown
+pub mod Joined
 pub mod Texts
 pub mod Names
 pub mod Forms

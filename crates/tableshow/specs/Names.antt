@@ -1,15 +1,11 @@
--- How numbers, symbols, code points, ranges and targets are named on a page. Assumes nothing.
+-- How symbols, code points, ranges and targets are named on a page. Assumes nothing.
 use Prim.Native.Nat.{ℕ, _+_, _/_, _%_}
 use mathlib.Core.List.{List, [], _∷_}
 use lib.Dec.{ltb}
 use Rattle.refusal.specs.Lists.{pick}
-use Rattle.program_io.specs.Decimal.{decimal}
-use Rattle.tableshow.specs.Shown.{joined, ifLess, ifSame}
+use Rattle.program_io.specs.Decimal.{number}
+use Rattle.tableshow.specs.Joined.{joined, ifLess, ifSame}
 use Rattle.tableshow.specs.Texts.{space, tab, newline, return-sign, hex, code-point, dots, arrow, escape-target, dead-target, to-continuation}
-
--- a number in decimal; it has 64 bits and so at most 20 digits
-abbrev pub number : ℕ → List ℕ
-number x = decimal 20 x
 
 -- the last hexadecimal digit of a number
 unfoldable pub hexDigit : ℕ → ℕ

@@ -9,8 +9,9 @@ use Rattle.look_targets.specs.Targets.{eofTarget}
 use Rattle.look_accepts.specs.Accept.{acceptOf}
 use Rattle.look_accepts.specs.Record.{recordOf}
 use Rattle.look_continuations.specs.Continuation.{eofContinuation}
-use Rattle.tableshow.specs.Shown.{joined, ifLess, ifSame}
-use Rattle.tableshow.specs.Names.{number, symbol, range, target}
+use Rattle.tableshow.specs.Joined.{joined, ifLess, ifSame}
+use Rattle.program_io.specs.Decimal.{number}
+use Rattle.tableshow.specs.Names.{symbol, range, target}
 use Rattle.tableshow.specs.Rows.{orElse, runAt, asciiText, wideText, escapesText}
 use Rattle.tableshow.specs.Texts as t
 

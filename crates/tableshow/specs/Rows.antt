@@ -6,8 +6,9 @@ use lib.ListN.{getD}
 use Rattle.refusal.specs.Said.{Said, ok, no}
 use Rattle.refusal.specs.Lists.{pick}
 use Rattle.look_targets.specs.Targets.{asciiTarget}
-use Rattle.tableshow.specs.Shown.{joined, ifSame}
-use Rattle.tableshow.specs.Names.{number, range, target}
+use Rattle.tableshow.specs.Joined.{joined, ifSame}
+use Rattle.program_io.specs.Decimal.{number}
+use Rattle.tableshow.specs.Names.{range, target}
 use Rattle.tableshow.specs.Texts.{between, next-line, no-items, end-line, ascii-label, wide-label, wide-as, escapes-label}
 
 -- p says how many items stand on the line: 0 before the first of all, and 1 to 3

@@ -7,7 +7,7 @@ ghost use Rattle.look_accepts.specs.Record as recorded;
 ghost use Rattle.look_continuations.specs.Continuation as continued;
 ghost use Rattle.look_modes.specs.Start as started;
 ghost use Rattle.look_targets.specs.Targets.{eofTarget};
-ghost use Rattle.tableshow.specs.Shown.{Shown};
+ghost use Rattle.program_io.specs.Shown.{Shown};
 ghost use Rattle.tableshow.specs.Forms.{formed};
 ghost use Rattle.tableshow.specs.Rows.{orElse, runAt};
 ghost use Rattle.tableshow.specs.Page.{part, recordLine, saidLine, acceptText, headText, untilText, rangesLine, runText, runLine, endTarget};

@@ -1,43 +1,13 @@
-// Bytes, numbers, symbols, ranges and forms on a page. Each function writes from place `n` of the page on, cuts off what does not fit, and
+// Symbols, ranges and forms on a page. Each function writes from place `n` of the page on, cuts off what does not fit, and
 // answers the place behind what it wrote.
 ghost use mathlib.Core.Path.{_≡_};
-ghost use mathlib.Core.List.{[], _∷_};
-ghost use Rattle.tableshow.specs.Shown.{Shown};
-ghost use Rattle.tableshow.specs.Names.{number, hexDigit, blank, symbol, point, range};
+ghost use Rattle.program_io.specs.Shown.{Shown};
+ghost use Rattle.tableshow.specs.Names.{hexDigit, blank, symbol, point, range};
 ghost use Rattle.tableshow.specs.Forms.{digitIn, glyphOf, numberIn, exitIn, lowIn, highIn, piece, drawn, formed};
 use crate::forms;
 use crate::forms::form_byte;
-
-fn put_byte(byte: u8, page: &mut [u8], n: usize) -> usize
-    ensures { λ r. ⌜ Shown (byte ∷ []) n (now (page .entry)) r (now (page .exit)) ⌝ }
-{
-    if n < page.len() {
-        page[n] = byte;
-        return n + 1;
-    }
-    n
-}
-
-fn put_text(text: &[u8], page: &mut [u8], n: usize) -> usize
-    ensures { λ r. ⌜ Shown (now (text .entry)) n (now (page .entry)) r (now (page .exit)) ⌝ }
-{
-    let mut i = 0;
-    let mut m = n;
-    while i < text.len() {
-        m = put_byte(text[i], page, m);
-        i += 1;
-    }
-    m
-}
-
-// A number in decimal.
-fn put_number(x: u64, page: &mut [u8], n: usize) -> usize
-    ensures { λ r. ⌜ Shown (number x) n (now (page .entry)) r (now (page .exit)) ⌝ }
-{
-    let mut digits = [0u8; 20];
-    let k = io::decimal(x, &mut digits);
-    put_text(&digits[..k], page, n)
-}
+use program_io::put_byte;
+use program_io::put_number;
 
 // The last hexadecimal digit of a number.
 fn hex_digit(x: u64) -> u8

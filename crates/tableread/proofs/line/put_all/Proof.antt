@@ -9,7 +9,6 @@ put-all-spec =
     (tie.spec
     (λ c κs. search parts)
     (λ c κs. search parts)
-    (λ c. search parts)
     (λ c κs. search parts)
     (λ c. search parts)
     (λ c. search parts))

@@ -1,8 +1,8 @@
--- By the law of every loop that writes: the numbers that are left, written from here, give what all of them give.
+-- By the law of every loop that shows: the numbers that are left, written from here, give what all of them give.
 use Prim.Native.Nat.{_-_}
 use lib.ListN.{length, drop}
 use Rattle.refusal.specs.Lists.{each}
-use Rattle.buffer.proofs.Going.{Going}
+use Rattle.program_io.proofs.Shows.{Coming}
 use Rattle.tableread.specs.Line.{spaced}
 use Rattle.tableread.proofs.Lines.{numbers}
 use Rattle.tableread.proofs.line.put_numbers.Statement.{statement}
@@ -10,7 +10,7 @@ use Rattle.tableread.proofs.line.put_numbers.Tie as tie
 
 abbrev Inv-loop : tie.InvT-loop
 Inv-loop numbers line₀ n i₀ m₀ line i m =
-    Going (each spaced numbers) n line₀ (each spaced (drop i numbers)) m line
+    Coming (each spaced numbers) n line₀ (each spaced (drop i numbers)) m line
 
 abbrev μ-loop : tie.MeasureT-loop
 μ-loop numbers line₀ n i₀ m₀ line i m = length numbers - i

@@ -1,5 +1,5 @@
 -- The byte is read from the bytes that the definition names.
-use Rattle.tableshow.specs.Shown.{joined}
+use Rattle.tableshow.specs.Joined.{joined}
 use Rattle.tableshow.specs.Forms.{forms}
 use Rattle.tableshow.proofs.Parts.{places}
 use Rattle.tableshow.proofs.forms.form_byte.Statement.{statement}

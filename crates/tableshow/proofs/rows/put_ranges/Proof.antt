@@ -2,7 +2,7 @@
 use Prim.Native.Nat.{_+_, _*_}
 use mathlib.Core.Path.{_≡_}
 use Rattle.tableshow.specs.Rows.{rangesFrom}
-use Rattle.tableshow.proofs.Shows.{Coming}
+use Rattle.program_io.proofs.Shows.{Coming}
 use Rattle.tableshow.proofs.Parts.{ranges}
 use Rattle.tableshow.proofs.rows.put_ranges.Statement.{statement}
 use Rattle.tableshow.proofs.rows.put_ranges.Tie as tie

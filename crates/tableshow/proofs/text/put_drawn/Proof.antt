@@ -3,7 +3,7 @@ use Prim.Native.Nat.{_-_}
 use mathlib.Core.Path.{_≡_}
 use lib.ListN.{getD}
 use Rattle.tableshow.specs.Forms.{forms, drawn}
-use Rattle.tableshow.proofs.Shows.{Coming}
+use Rattle.program_io.proofs.Shows.{Coming}
 use Rattle.tableshow.proofs.Filling.{letters}
 use Rattle.tableshow.proofs.text.put_drawn.Statement.{statement}
 use Rattle.tableshow.proofs.text.put_drawn.Tie as tie

@@ -3,7 +3,7 @@ use Prim.Native.Nat.{_-_}
 use mathlib.Core.Path.{_≡_}
 use lib.ListN.{getD}
 use Rattle.tableshow.specs.Forms.{forms, formed}
-use Rattle.tableshow.proofs.Shows.{Coming}
+use Rattle.program_io.proofs.Shows.{Coming}
 use Rattle.tableshow.proofs.Filling.{letters}
 use Rattle.tableshow.proofs.text.put_form.Statement.{statement}
 use Rattle.tableshow.proofs.text.put_form.Tie as tie
