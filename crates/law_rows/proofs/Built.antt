@@ -9,7 +9,7 @@ use native.Mathlib.Omega.{arith}
 use native.Mathlib.Nat.{zero-add}
 use lib.ListN.{length, getD}
 use borrow.Author.Tests.{lt-ltb, le-ltb, eq-eqb}
-use Rattle.refusal.specs.Fixed.{NONE}
+use Rattle.refusal.specs.Fixed.{NONE, DEAD-STATE}
 use Rattle.list_transitions.specs.Transition.{Transition, points}
 use Rattle.list_transitions.specs.Intervals.{Span, bitsAt, allIntervals}
 use Rattle.list_transitions.proofs.Accepted.{AllInOrder}
@@ -19,7 +19,7 @@ use Rattle.list_segments.specs.Segments.{Asc, cutsOf, starts}
 use Rattle.list_masks.specs.Masks.{pack, wordsFor, maskOf, masksAt, isZero, index, distinctOf}
 use Rattle.list_masks.proofs.Keeps.{Has}
 use Rattle.law_lookups.specs.Looks.{goalAt}
-use Rattle.law_rows.specs.Row.{Row, DEAD, partFrom, targetIn, Sorted}
+use Rattle.law_rows.specs.Row.{Row, partFrom, targetIn, Sorted}
 use Rattle.law_rows.specs.Build.{given, targetOf, contOf, rowOf, targetRow, contRow, asciiOf, wideOf, escapeOf}
 use Rattle.law_rows.proofs.Searches.{Upto}
 use Rattle.law_rows.proofs.Joins.{Live, look-join}
@@ -41,7 +41,7 @@ unfolding given
 given-at d ds vs m z = rw z
 
 cont-none : (ts : List Transition) (targets conts m : List ℕ) → isZero m ≡ true → contOf ts targets conts m ≡ NONE
-cont-none ts targets conts m z = rw (eq-eqb (targetOf ts targets m) DEAD (given-none DEAD (distinctOf ts) targets m z))
+cont-none ts targets conts m z = rw (eq-eqb (targetOf ts targets m) DEAD-STATE (given-none DEAD-STATE (distinctOf ts) targets m z))
 
 -- Cuts and masks of a list. A mask by the intervals changes at cuts only, and is that by the records at every point
 
@@ -112,8 +112,8 @@ module _ (ts : List Transition) where
         ∙ look-over d (λ p. v (spanMask p)) (cutsOf ts) asc-cuts (stepped d v z) p
         ∙ ap v (sym (mask-is a p h))
 
-  look-targets : (targets : List ℕ) → AllInOrder ts → (p : ℕ) → p < points → goalAt DEAD (targetRow ts targets) p ≡ targetOf ts targets (maskOf ts p)
-  look-targets targets = look-row DEAD (targetOf ts targets) (given-none DEAD (distinctOf ts) targets)
+  look-targets : (targets : List ℕ) → AllInOrder ts → (p : ℕ) → p < points → goalAt DEAD-STATE (targetRow ts targets) p ≡ targetOf ts targets (maskOf ts p)
+  look-targets targets = look-row DEAD-STATE (targetOf ts targets) (given-none DEAD-STATE (distinctOf ts) targets)
 
   -- the target at a point
   pub target-law : (targets : List ℕ) → AllInOrder ts → (p : ℕ) → p < points →
@@ -122,12 +122,15 @@ module _ (ts : List Transition) where
       le-cases 128 p
       (λ k.
       rw (le-ltb p 128 k)
-      (look-join DEAD (max 0 128) (partFrom 128 (targetRow ts targets)) p (sorted-part 0 128 (targetRow ts targets) (sorted-row DEAD (targetOf ts targets)))
-      ∙ look-part DEAD 128 (targetRow ts targets) p k
+      (look-join DEAD-STATE (max 0 128) (partFrom 128 (targetRow ts targets)) p
+      (sorted-part 0 128 (targetRow ts targets) (sorted-row DEAD-STATE (targetOf ts targets)))
+      ∙ look-part DEAD-STATE 128 (targetRow ts targets) p k
       ∙ look-targets targets a p h))
       (λ k.
       rw (lt-ltb p 128 k)
-      (getD-values (goalAt DEAD (targetRow ts targets)) 0 128 p 0 k ∙ ap (goalAt DEAD (targetRow ts targets)) (zero-add p) ∙ look-targets targets a p h))
+      (getD-values (goalAt DEAD-STATE (targetRow ts targets)) 0 128 p 0 k
+      ∙ ap (goalAt DEAD-STATE (targetRow ts targets)) (zero-add p)
+      ∙ look-targets targets a p h))
 
   -- the continuation at a point
   pub cont-law : (targets conts : List ℕ) → AllInOrder ts → (p : ℕ) → p < points →

@@ -9,12 +9,12 @@ use native.Mathlib.Omega.{arith}
 use lib.Dec.{eqb}
 use lib.ListN.{length, getD}
 use Rattle.refusal.specs.Lists.{pick}
-use Rattle.refusal.specs.Fixed.{NONE}
+use Rattle.refusal.specs.Fixed.{NONE, DEAD-STATE}
 use Rattle.law_tables.specs.Table.{Range}
 use Rattle.list_transitions.specs.Transition.{Transition}
 use Rattle.list_segments.specs.Segments.{cutsOf}
 use Rattle.list_masks.specs.Masks.{maskOf, distinctOf}
-use Rattle.law_rows.specs.Row.{Row, DEAD, Each, grown, join, partFrom}
+use Rattle.law_rows.specs.Row.{Row, Each, grown, join, partFrom}
 use Rattle.law_rows.specs.Build.{given, targetOf, contOf, rowOf, targetRow, contRow, wideOf, escapeOf}
 use Rattle.law_rows.specs.Demand.{OneOf}
 use Rattle.law_rows.proofs.Joins.{Live, each-joinTo}
@@ -51,7 +51,7 @@ module _ (ts : List Transition) where
   known-given d vs m = each-given (Known d vs) d (distinctOf ts) vs m (inl refl) (known d vs)
 
   known-cont : (targets conts m : List ℕ) → Known NONE conts (contOf ts targets conts m)
-  known-cont targets conts m = go (eqb (targetOf ts targets m) DEAD)
+  known-cont targets conts m = go (eqb (targetOf ts targets m) DEAD-STATE)
     where
       go : (t : Bool) → Known NONE conts (pick t NONE (given NONE (distinctOf ts) conts m))
       go true = inl refl
@@ -61,7 +61,7 @@ module _ (ts : List Transition) where
   wide-given targets =
       each-join (λ r. OneOf targets (r .goal)) (λ a r u v. u) (partFrom 128 (targetRow ts targets))
       (each-part (λ r. OneOf targets (r .goal)) 128 (λ r u. u) (targetRow ts targets)
-      (row-given ts DEAD (targetOf ts targets) targets (known-given DEAD targets)))
+      (row-given ts DEAD-STATE (targetOf ts targets) targets (known-given DEAD-STATE targets)))
 
   pub escape-given : (targets conts : List ℕ) → Each (λ r. OneOf conts (r .goal)) (escapeOf ts targets conts)
   escape-given targets conts =

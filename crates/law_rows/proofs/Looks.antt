@@ -7,7 +7,7 @@ use native.Mathlib.Omega.{arith}
 use lib.ListN.{length, getD}
 use lib.Seq.{ext-getD}
 use borrow.Author.Tests.{eq-eqb, ne-eqb}
-use Rattle.refusal.specs.Fixed.{NONE}
+use Rattle.refusal.specs.Fixed.{NONE, DEAD-STATE}
 use Rattle.list_transitions.specs.Transition.{Transition, holdAt}
 use Rattle.list_transitions.specs.Read.{parse, isParsed, accepted}
 use Rattle.list_transitions.proofs.Accepted.{AllInOrder, listed}
@@ -15,7 +15,6 @@ use Rattle.list_masks.specs.Masks.{bit, pack, wordsFor, maskOf, isZero, index, 
 use Rattle.list_segments.specs.Segments.{cutsOf, starts}
 use Rattle.list_masks.proofs.Packs.{length-hold, every-mask}
 use Rattle.list_masks.proofs.Keeps.{Has, every-distinct}
-use Rattle.law_rows.specs.Row.{DEAD}
 use Rattle.law_rows.specs.Build.{targetOf}
 use Rattle.law_rows.specs.Demand.{heldBy, maskBit, Exactly, Looked}
 use Rattle.law_rows.proofs.Masks.{Blank, bit-inj, blank-zero, zero-blank, pack-bit}
@@ -102,24 +101,24 @@ module _ (ts : List Transition) where
             let z : isZero (maskOf ts p) ≡ false = some-nonzero p i l y in
             let k : ℕ = index (distinctOf ts) (maskOf ts p) in
             let has : Has (distinctOf ts) (maskOf ts p) = place-law ts a p h z in
-            let t : targetOf ts targets (maskOf ts p) ≡ getD targets k DEAD = given-at DEAD (distinctOf ts) targets (maskOf ts p) z in
+            let t : targetOf ts targets (maskOf ts p) ≡ getD targets k DEAD-STATE = given-at DEAD-STATE (distinctOf ts) targets (maskOf ts p) z in
             record {
               place = k;
               within = has;
               exactly = λ j m. ap (λ (x : List ℕ). maskBit x j) (has-at (distinctOf ts) (maskOf ts p) has) ∙ mask-exact p j m;
               alone = alone p;
               target = target-law ts targets a p h ∙ t;
-              cont-dead = λ e. cont-law ts targets conts a p h ∙ rw (eq-eqb (targetOf ts targets (maskOf ts p)) DEAD (t ∙ e));
+              cont-dead = λ e. cont-law ts targets conts a p h ∙ rw (eq-eqb (targetOf ts targets (maskOf ts p)) DEAD-STATE (t ∙ e));
               cont-live = λ n.
                   cont-law ts targets conts a p h
-                  ∙ rw (ne-eqb (targetOf ts targets (maskOf ts p)) DEAD (λ e. n (sym t ∙ e))) (given-at NONE (distinctOf ts) conts (maskOf ts p) z);
+                  ∙ rw (ne-eqb (targetOf ts targets (maskOf ts p)) DEAD-STATE (λ e. n (sym t ∙ e))) (given-at NONE (distinctOf ts) conts (maskOf ts p) z);
             };
         unheld = λ p h n.
             let z : isZero (maskOf ts p) ≡ true = none-zero p n in
-            let t : targetOf ts targets (maskOf ts p) ≡ DEAD = given-none DEAD (distinctOf ts) targets (maskOf ts p) z in
+            let t : targetOf ts targets (maskOf ts p) ≡ DEAD-STATE = given-none DEAD-STATE (distinctOf ts) targets (maskOf ts p) z in
             record {
               target = target-law ts targets a p h ∙ t;
-              cont = cont-law ts targets conts a p h ∙ rw (eq-eqb (targetOf ts targets (maskOf ts p)) DEAD t);
+              cont = cont-law ts targets conts a p h ∙ rw (eq-eqb (targetOf ts targets (maskOf ts p)) DEAD-STATE t);
             };
       }
 

@@ -6,11 +6,11 @@ use mathlib.Core.List.{List, [], _∷_}
 use native.Mathlib.Omega.{arith}
 use lib.Seq.{ext-getD}
 use borrow.Author.Tests.{lt-ltb, le-ltb}
-use Rattle.refusal.specs.Fixed.{NONE}
+use Rattle.refusal.specs.Fixed.{NONE, DEAD-STATE}
 use Rattle.law_tables.specs.Rules.{Searchable}
 use Rattle.list_transitions.specs.Transition.{Transition}
 use Rattle.law_lookups.specs.Looks.{goalAt}
-use Rattle.law_rows.specs.Row.{Row, DEAD, partFrom, numbers, Sorted}
+use Rattle.law_rows.specs.Row.{Row, partFrom, numbers, Sorted}
 use Rattle.law_rows.specs.Build.{targetOf, contOf, targetRow, contRow, asciiOf, wideOf, escapeOf}
 use Rattle.law_rows.specs.Demand.{SameAnswers, SameRows}
 use Rattle.law_rows.proofs.Searches.{Upto}
@@ -22,15 +22,16 @@ use Rattle.law_rows.proofs.Built.{sorted-row, live-row, upto-row}
 -- What every built row is
 
 module _ (ts : List Transition) (targets : List ℕ) where
-  wide-canonical : Canonical DEAD 128 (wideOf ts targets)
+  wide-canonical : Canonical DEAD-STATE 128 (wideOf ts targets)
   wide-canonical =
-      join-canonical DEAD 128 (partFrom 128 (targetRow ts targets)) (sorted-part 0 128 (targetRow ts targets) (sorted-row ts DEAD (targetOf ts targets)))
-      (each-part (λ r. r .goal ≡ DEAD → ⊥) 128 (λ r u. u) (targetRow ts targets) (live-row ts DEAD (targetOf ts targets)))
+      join-canonical DEAD-STATE 128 (partFrom 128 (targetRow ts targets))
+      (sorted-part 0 128 (targetRow ts targets) (sorted-row ts DEAD-STATE (targetOf ts targets)))
+      (each-part (λ r. r .goal ≡ DEAD-STATE → ⊥) 128 (λ r u. u) (targetRow ts targets) (live-row ts DEAD-STATE (targetOf ts targets)))
 
   wide-upto : Upto 1114111 (wideOf ts targets)
   wide-upto =
       upto-join 1114111 (partFrom 128 (targetRow ts targets))
-      (each-part (λ r. r .high ≤ 1114111) 128 (λ r u. u) (targetRow ts targets) (upto-row ts DEAD (targetOf ts targets)))
+      (each-part (λ r. r .high ≤ 1114111) 128 (λ r u. u) (targetRow ts targets) (upto-row ts DEAD-STATE (targetOf ts targets)))
 
   module _ (conts : List ℕ) where
     escape-canonical : Canonical NONE 0 (escapeOf ts targets conts)
@@ -61,11 +62,11 @@ same-rows ts us targets others conts others′ e =
       ascii =
           ext-getD 0 (asciiOf ts targets) (asciiOf us others) (length-values _ 0 128 ∙ sym (length-values _ 0 128))
           (λ i h.
-          let k : i < 128 = omega (arith, length-values (goalAt DEAD (targetRow ts targets)) 0 128) in
+          let k : i < 128 = omega (arith, length-values (goalAt DEAD-STATE (targetRow ts targets)) 0 128) in
           rw (lt-ltb i 128 k) at (e .targets-same i (omega arith)));
       wide =
           ap numbers
-          (canonical-unique DEAD 128 1114111 (wideOf ts targets) (wideOf us others) (wide-canonical ts targets) (wide-canonical us others)
+          (canonical-unique DEAD-STATE 128 1114111 (wideOf ts targets) (wideOf us others) (wide-canonical ts targets) (wide-canonical us others)
           (wide-upto ts targets) (wide-upto us others) (λ p l h. rw (le-ltb p 128 l) at (e .targets-same p (omega arith))));
       escape =
           ap numbers

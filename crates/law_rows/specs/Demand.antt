@@ -7,13 +7,13 @@ use mathlib.Core.List.{List, [], _∷_}
 use lib.ListN.{length, getD}
 use lib.Dec.{leb, ltb}
 use Rattle.refusal.specs.Lists.{pick}
-use Rattle.refusal.specs.Fixed.{NONE}
+use Rattle.refusal.specs.Fixed.{NONE, DEAD-STATE}
 use Rattle.buffer.specs.Over.{zeros}
 use Rattle.list_transitions.specs.Transition.{Transition, wildcard, points, holds}
 use Rattle.list_segments.specs.Segments.{cutsOf}
 use Rattle.list_masks.specs.Masks.{bit, wordsFor, maskOf, distinctOf}
 use Rattle.law_lookups.specs.Looks.{goalAt}
-use Rattle.law_rows.specs.Row.{DEAD, targetIn, numbers}
+use Rattle.law_rows.specs.Row.{targetIn, numbers}
 use Rattle.law_rows.specs.Build.{asciiOf, wideOf, escapeOf}
 
 -- transition i holds p, by its record
@@ -42,13 +42,13 @@ pub record Placed (ts : List Transition) (targets conts : List ℕ) (p : ℕ) : 
   pub within : place < length (distinctOf ts)
   pub exactly : Exactly ts p (getD (distinctOf ts) place [])
   pub alone : (k : ℕ) → k < length (distinctOf ts) → Exactly ts p (getD (distinctOf ts) k []) → k ≡ place
-  pub target : targetAt ts targets p ≡ getD targets place DEAD
-  pub cont-dead : getD targets place DEAD ≡ DEAD → contAt ts targets conts p ≡ NONE
-  pub cont-live : (getD targets place DEAD ≡ DEAD → ⊥) → contAt ts targets conts p ≡ getD conts place NONE
+  pub target : targetAt ts targets p ≡ getD targets place DEAD-STATE
+  pub cont-dead : getD targets place DEAD-STATE ≡ DEAD-STATE → contAt ts targets conts p ≡ NONE
+  pub cont-live : (getD targets place DEAD-STATE ≡ DEAD-STATE → ⊥) → contAt ts targets conts p ≡ getD conts place NONE
 
 -- "and dead where none does"
 pub record Dead (ts : List Transition) (targets conts : List ℕ) (p : ℕ) : Type 0 where
-  pub target : targetAt ts targets p ≡ DEAD
+  pub target : targetAt ts targets p ≡ DEAD-STATE
   pub cont : contAt ts targets conts p ≡ NONE
 
 -- "at each code point from 0 to 1,114,111"

@@ -7,14 +7,11 @@ use lib.Dec.{ltb, eqb}
 use lib.ListN.{getD}
 use Rattle.refusal.specs.Lists.{pick, each}
 use Rattle.law_tables.specs.Table.{Range, rangeWords}
+use Rattle.refusal.specs.Fixed.{DEAD-STATE}
 use Rattle.law_lookups.specs.Looks.{goalAt}
 
 abbrev pub Row : Type 0
 Row = List Range
-
--- "`DEAD_STATE` 65535"
-abbrev pub DEAD : ℕ
-DEAD = 65535
 
 -- a row as its numbers: low, high and goal of each range
 abbrev pub numbers : Row → List ℕ
@@ -74,11 +71,11 @@ values f first (suc n) = f first ∷ values f (suc first) n
 
 -- "`split_rows` parts at 128 and joins touching wide ranges of one target": 128 ascii targets and a wide row
 abbrev pub asciiPart : Row → List ℕ
-asciiPart rs = values (goalAt DEAD rs) 0 128
+asciiPart rs = values (goalAt DEAD-STATE rs) 0 128
 
 abbrev pub widePart : Row → Row
 widePart rs = join (partFrom 128 rs)
 
 -- "0 to 127 use the ascii row; otherwise" the wide row, as `char_target` does
 abbrev pub targetIn : List ℕ → Row → ℕ → ℕ
-targetIn ascii wide p = pick (ltb p 128) (getD ascii p 0) (goalAt DEAD wide p)
+targetIn ascii wide p = pick (ltb p 128) (getD ascii p 0) (goalAt DEAD-STATE wide p)

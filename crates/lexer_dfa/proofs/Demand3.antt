@@ -12,7 +12,7 @@ use lib.Seq.{getD-take}
 use denote.Ref.{RefT}
 use borrow.Author.Tests.{lt-ltb, le-ltb, eq-eqb}
 use Rattle.refusal.specs.Said.{ok}
-use Rattle.refusal.specs.Fixed.{NONE}
+use Rattle.refusal.specs.Fixed.{NONE, DEAD-STATE}
 use Rattle.buffer.specs.Over.{zeros, padded}
 use Rattle.law_tables.specs.Table.{Table}
 use Rattle.law_tables.proofs.Codec.{At}
@@ -32,7 +32,7 @@ use Rattle.list_masks.specs.Answer as masks
 use Rattle.list_masks.specs.Answer.{parseMasks, parseDistinct, masksIn, Matrix, Distinct}
 use Rattle.list_masks.proofs.Packs.{length-masks}
 use Rattle.list_distinct.proofs.PlaceAnswers.{accepted-list}
-use Rattle.law_rows.specs.Row.{DEAD, numbers}
+use Rattle.law_rows.specs.Row.{numbers}
 use Rattle.law_rows.specs.Build.{targetRow, asciiOf, wideOf, escapeOf}
 use Rattle.law_rows.specs.Demand as law
 use Rattle.law_rows.proofs.Parts.{length-values}
@@ -71,9 +71,9 @@ module _ {ts : List Transition} {targets conts : List ℕ} {n m : ℕ} {l : Rows
       le-cases 128 p
       (λ h.
       rw (le-ltb p 128 h)
-      (ap₂ (λ (k : ℕ) (b : List ℕ). searchedFor DEAD b k p) (s .wide-count) (s .wide-is) ∙ searched-is DEAD (s .wide-room) (wideOf ts targets) p))
+      (ap₂ (λ (k : ℕ) (b : List ℕ). searchedFor DEAD-STATE b k p) (s .wide-count) (s .wide-is) ∙ searched-is DEAD-STATE (s .wide-room) (wideOf ts targets) p))
       (λ h.
-      let k : p < length (asciiOf ts targets) = omega (arith, length-values (goalAt DEAD (targetRow ts targets)) 0 128) in
+      let k : p < length (asciiOf ts targets) = omega (arith, length-values (goalAt DEAD-STATE (targetRow ts targets)) 0 128) in
       rw (lt-ltb p 128 h) (ap (λ (b : List ℕ). getD b p 0) (s .ascii-is) ∙ padded-at (s .ascii-room) (asciiOf ts targets) p k))
 
   cont-is : (p : ℕ) → contAt l m p ≡ law.contAt ts targets conts p
@@ -85,7 +85,7 @@ module _ {ts : List Transition} {targets conts : List ℕ} {n m : ℕ} {l : Rows
 
   ascii-front : take 128 (l .ascii) ≡ asciiOf ts targets
   ascii-front =
-      let size : 128 ≡ length (asciiOf ts targets) = sym (length-values (goalAt DEAD (targetRow ts targets)) 0 128) in
+      let size : 128 ≡ length (asciiOf ts targets) = sym (length-values (goalAt DEAD-STATE (targetRow ts targets)) 0 128) in
       ap₂ (λ (k : ℕ) (b : List ℕ). take k b) size (s .ascii-is) ∙ padded-front (s .ascii-room) (asciiOf ts targets)
 
   wide-front : take n (l .wide) ≡ numbers (wideOf ts targets)
@@ -270,7 +270,7 @@ rows-in-table a n m l x t s i =
       target = λ p.
           ap (ofState t s)
           (le-cases 128 p
-          (λ h. rw (le-ltb p 128 h) (sym (searched-front DEAD (l .wide) n (getD (t .wide) (stateOf t s .wide) []) p wides (i .wide))))
+          (λ h. rw (le-ltb p 128 h) (sym (searched-front DEAD-STATE (l .wide) n (getD (t .wide) (stateOf t s .wide) []) p wides (i .wide))))
           (λ h. rw (lt-ltb p 128 h) (ap (λ (r : List ℕ). getD r p 0) (i .ascii) ∙ getD-take 128 (l .ascii) p 0 h)));
       cont = λ p. ap (ofState t s) (sym (searched-front NONE (l .escape) m (table.escapeOf t s .ranges) p escapes (i .escape)));
     }

@@ -9,7 +9,7 @@ use lib.ListN.{length, getD, take}
 use contract.Lifetimes.{Lfts}
 use denote.Ref.{RefT}
 use Rattle.refusal.specs.Lists.{pick}
-use Rattle.refusal.specs.Fixed.{NONE}
+use Rattle.refusal.specs.Fixed.{NONE, DEAD-STATE}
 use Rattle.look_row.specs.Search.{found, given}
 use Rattle.law_tables.specs.Table.{Table}
 use Rattle.law_tables.specs.Rules.{Searchable, rowOf}
@@ -21,7 +21,7 @@ use Rattle.list_masks.specs.declared.Masks.the-variants.{Count}
 use Rattle.list_masks.specs.Masks.{bit, wordsFor, distinctOf}
 use Rattle.list_masks.proofs.segment_mask_matrix.Reads as matrix
 use Rattle.list_distinct.proofs.distinct_masks.Reads as distinct
-use Rattle.law_rows.specs.Row.{Row, DEAD, Each, numbers}
+use Rattle.law_rows.specs.Row.{Row, Each, numbers}
 use Rattle.law_rows.specs.Demand.{heldBy, OneOf}
 use Rattle.row_build.specs.declared.Rows.{Rows}
 use Rattle.row_build.specs.declared.Rows.the-variants.{Built}
@@ -95,7 +95,7 @@ searchedFor other row n p = given (found row p (n / 3) 0) (λ goal. goal) other 
 
 -- "0 to 127 use the ascii row; otherwise" the wide row, of n numbers
 abbrev pub targetAt : RowsLeft → ℕ → ℕ → ℕ
-targetAt l n p = pick (ltb p 128) (getD (l .ascii) p 0) (searchedFor DEAD (l .wide) n p)
+targetAt l n p = pick (ltb p 128) (getD (l .ascii) p 0) (searchedFor DEAD-STATE (l .wide) n p)
 
 -- "Escape rows serve ASCII too": the escape row has m numbers
 abbrev pub contAt : RowsLeft → ℕ → ℕ → ℕ
@@ -112,13 +112,13 @@ pub record Placed (w targets conts : List ℕ) (n m : ℕ) (l : RowsLeft) (p : �
   pub within : place < length targets
   pub exactly : OfExactly w (l .distinct) p place
   pub alone : (k : ℕ) → k < length targets → OfExactly w (l .distinct) p k → k ≡ place
-  pub target : targetAt l n p ≡ getD targets place DEAD
-  pub cont-dead : getD targets place DEAD ≡ DEAD → contAt l m p ≡ NONE
-  pub cont-live : (getD targets place DEAD ≡ DEAD → ⊥) → contAt l m p ≡ getD conts place NONE
+  pub target : targetAt l n p ≡ getD targets place DEAD-STATE
+  pub cont-dead : getD targets place DEAD-STATE ≡ DEAD-STATE → contAt l m p ≡ NONE
+  pub cont-live : (getD targets place DEAD-STATE ≡ DEAD-STATE → ⊥) → contAt l m p ≡ getD conts place NONE
 
 -- "and dead where none does"
 pub record Dead (n m : ℕ) (l : RowsLeft) (p : ℕ) : Type 0 where
-  pub target : targetAt l n p ≡ DEAD
+  pub target : targetAt l n p ≡ DEAD-STATE
   pub cont : contAt l m p ≡ NONE
 
 -- the first n numbers of a buffer are a row as rules 6 and 8 want it: "Searchable: low at most high, each high below the next low", and each of its targets, or

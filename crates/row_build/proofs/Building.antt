@@ -10,7 +10,7 @@ use lib.ListN.{length, getD, length-append, length-replicate, List·getD-eq-defa
 use Rattle.refusal.specs.declared.Refusal.{Refusal}
 use Rattle.refusal.specs.Said.{Said, ok, no}
 use Rattle.refusal.specs.Lists.{pick}
-use Rattle.refusal.specs.Fixed.{NONE}
+use Rattle.refusal.specs.Fixed.{NONE, DEAD-STATE}
 use Rattle.law_tables.proofs.Codec.{At, start, on, at-head}
 use Rattle.buffer.specs.Over.{lay, zeros, padded}
 use Rattle.buffer.proofs.Overs.{lay-zeros}
@@ -28,7 +28,7 @@ use Rattle.list_masks.proofs.Keeps.{place-some, place-none}
 use Rattle.list_masks.proofs.Packs.{length-masks}
 use Rattle.list_distinct.proofs.Distincts.{length-places, few-distinct}
 use Rattle.list_distinct.proofs.PlaceAnswers.{roomy-places}
-use Rattle.law_rows.specs.Row.{Row, DEAD, Sorted, numbers, rowFrom, rowOver, joinTo, join, partFrom, values, asciiPart}
+use Rattle.law_rows.specs.Row.{Row, Sorted, numbers, rowFrom, rowOver, joinTo, join, partFrom, values, asciiPart}
 use Rattle.law_rows.specs.Build.{given, targetOf, contOf, rowOf, asciiOf, escapeOf}
 use Rattle.law_rows.proofs.Built as built
 use Rattle.law_rows.proofs.Searches.{sorted-weaken}
@@ -110,8 +110,10 @@ joined-is : (e : Bool) (all rs : Row) → Sorted 0 rs → Sorted 0 all → livin
 joined-is e all rs o s i =
     ap (partFrom (firstOf e)) (living-joined (noGoal e) 0 (rangeOf 0 0 (noGoal e)) all refl s ∙ ap join i) ∙ part-joined (firstOf e) 0 rs o
 
-ascii-is : (all rs : Row) → Sorted 0 all → living DEAD all ≡ rs → asciiPart all ≡ asciiPart rs
-ascii-is all rs s e = values-same (goalAt DEAD all) (goalAt DEAD rs) 0 128 (λ p l h. sym (look-living DEAD 0 all p s) ∙ ap (λ (x : Row). goalAt DEAD x p) e)
+ascii-is : (all rs : Row) → Sorted 0 all → living DEAD-STATE all ≡ rs → asciiPart all ≡ asciiPart rs
+ascii-is all rs s e =
+    values-same (goalAt DEAD-STATE all) (goalAt DEAD-STATE rs) 0 128
+    (λ p l h. sym (look-living DEAD-STATE 0 all p s) ∙ ap (λ (x : Row). goalAt DEAD-STATE x p) e)
 
 -- What the call below leaves, where it finds something
 
@@ -284,7 +286,7 @@ module _ (w targets conts sg mk ds ai ws es : List ℕ) {got : Places} {sg₁ mk
 
     -- what each place was given is what its mask was given
     target-is : (c : ℕ) → targetAt targets (placeOf (distinctOf ts) (maskOf ts c)) ≡ targetOf ts targets (maskOf ts c)
-    target-is c = given-place DEAD (distinctOf ts) targets (maskOf ts c) (omega (arith, p .a-target-each, few-masks))
+    target-is c = given-place DEAD-STATE (distinctOf ts) targets (maskOf ts c) (omega (arith, p .a-target-each, few-masks))
 
     abbrev goal : Bool → List ℕ → ℕ
     goal e m = pick e (contOf ts targets conts m) (targetOf ts targets m)
@@ -292,7 +294,7 @@ module _ (w targets conts sg mk ds ai ws es : List ℕ) {got : Places} {sg₁ mk
     goal-is : (e : Bool) (q : ℕ) → goalOf e targets conts (placeOf (distinctOf ts) (maskOf ts q)) ≡ goal e (maskOf ts q)
     goal-is false q = target-is q
     goal-is true q =
-        ap₂ (λ (t v : ℕ). pick (eqb t DEAD) NONE v) (target-is q)
+        ap₂ (λ (t v : ℕ). pick (eqb t DEAD-STATE) NONE v) (target-is q)
         (given-place NONE (distinctOf ts) conts (maskOf ts q) (omega (arith, p .a-cont-each, few-masks)))
 
     -- either row of the list, and what of it is written
@@ -322,7 +324,7 @@ module _ (w targets conts sg mk ds ai ws es : List ℕ) {got : Places} {sg₁ mk
     unfolding segmentsIn masksIn counted asciiIn wideIn escapeIn
     build-done f =
         let fit-a : length (asciiPart (aimed (targetAt targets) sg₁ ps c 0)) ≤ length ai =
-        omega (arith, length-values (goalAt DEAD (aimed (targetAt targets) sg₁ ps c 0)) 0 128, room .0) in
+        omega (arith, length-values (goalAt DEAD-STATE (aimed (targetAt targets) sg₁ ps c 0)) 0 128, room .0) in
         let fit-w : length (numbers (joined false targets conts sg₁ ps c)) ≤ length ws =
         omega (arith, few-joined false targets conts sg₁ ps c, p .few, room .1) in
         let fit-e : length (numbers (joined true targets conts sg₁ ps c)) ≤ length es =

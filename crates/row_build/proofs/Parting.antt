@@ -6,12 +6,13 @@ use mathlib.Core.List.{List, [], _∷_, _++_, append-nil, append-assoc}
 use native.Mathlib.Omega.{arith}
 use borrow.Author.Needs.{needs}
 use lib.ListN.{length, getD, set, replicate, length-append, length-replicate}
+use Rattle.refusal.specs.Fixed.{DEAD-STATE}
 use Rattle.refusal.specs.Said.{Said, ok}
 use Rattle.law_tables.specs.Table.{Range}
 use Rattle.law_lookups.specs.Looks.{goalAt}
 use Rattle.buffer.specs.Over.{Put}
 use Rattle.buffer.proofs.Going.{Going, going-start, going-done, going-turn, going-put, going-place, put-size}
-use Rattle.law_rows.specs.Row.{Row, DEAD, Sorted, values, numbers, asciiPart}
+use Rattle.law_rows.specs.Row.{Row, Sorted, values, numbers, asciiPart}
 use Rattle.law_rows.proofs.Searches.{look-hit, look-gap, look-past, sorted-weaken}
 use Rattle.law_rows.proofs.Parts.{length-values}
 use Rattle.row_goals.specs.Goals.{targetAt}
@@ -50,17 +51,17 @@ pub ruleset filling = (needs, fill-start, fill-place, fill-turn, fill-done)
 
 pub two-fills : (n low high goal : ℕ) (d : List ℕ) {e m f r : ℕ} {new last : List ℕ} → (n ≤ min low 128) × (low ≤ high) → 128 ≤ length d →
     e ≡ min low 128 → f ≡ min (suc high) 128 →
-    Stretch DEAD n e d m new → Stretch goal m f new r last → Put (targetsOf n low high goal) n d r last
+    Stretch DEAD-STATE n e d m new → Stretch goal m f new r last → Put (targetsOf n low high goal) n d r last
 unfolding targetsOf
 two-fills n low high goal d {e} {m} {f} {r} {new} {last} o h p q k v =
     let s : m ≡ min low 128 = k .behind ∙ p in
-    let a : List ℕ = replicate (min low 128 - n) DEAD in
+    let a : List ℕ = replicate (min low 128 - n) DEAD-STATE in
     let b : List ℕ = replicate (min (suc high) 128 - min low 128) goal in
     let k′ : Put a n d m new = rw p at (k .put) in
     let v′ : Put b m new r last =
     subst (λ x. Put (replicate (min (suc high) 128 - x) goal) m new r last) s (subst (λ x. Put (replicate (x - m) goal) m new r last) q (v .put)) in
     let fits : n + length (a ++ b) ≤ length d =
-    omega (arith, o .0, o .1, length-append a b, length-replicate (min low 128 - n) DEAD, length-replicate (min (suc high) 128 - min low 128) goal) in
+    omega (arith, o .0, o .1, length-append a b, length-replicate (min low 128 - n) DEAD-STATE, length-replicate (min (suc high) 128 - min low 128) goal) in
     let z : b ≡ b ++ [] = sym (append-nil b) in
     let half : Going (a ++ b) n d b m new = going-turn (a ++ b) n d b n d a k′ (going-start (a ++ b) n d fits) in
     going-done (a ++ b) n d (going-turn (a ++ b) n d [] m new b v′ (subst (λ x. Going (a ++ b) n d x m new) z half))
@@ -94,11 +95,11 @@ values-one f x m (suc n) h =
 
 -- the ascii targets from m on, where the first range starts at m or later
 ascii-open : (r : Range) (rs : Row) (m : ℕ) → m ≤ 128 → Sorted m (r ∷ rs) →
-    values (goalAt DEAD (r ∷ rs)) m (128 - m) ≡
-    targetsOf m (r .low) (r .high) (r .goal) ++ values (goalAt DEAD rs) (min (suc (r .high)) 128) (128 - min (suc (r .high)) 128)
+    values (goalAt DEAD-STATE (r ∷ rs)) m (128 - m) ≡
+    targetsOf m (r .low) (r .high) (r .goal) ++ values (goalAt DEAD-STATE rs) (min (suc (r .high)) 128) (128 - min (suc (r .high)) 128)
 unfolding targetsOf
 ascii-open r rs m h s =
-    let f : ℕ → ℕ = goalAt DEAD (r ∷ rs) in
+    let f : ℕ → ℕ = goalAt DEAD-STATE (r ∷ rs) in
     let a : ℕ = min (r .low) 128 - m in
     let b : ℕ = min (suc (r .high)) 128 - min (r .low) 128 in
     let c : ℕ = 128 - min (suc (r .high)) 128 in
@@ -108,20 +109,20 @@ ascii-open r rs m h s =
     ap (values f m) all
     ∙ values-more f m a (b + c)
     ∙ ap₂ (λ (x y : List ℕ). x ++ y)
-    (values-one f DEAD m a (λ p l k. look-gap DEAD r rs p (omega arith) (omega arith)))
+    (values-one f DEAD-STATE m a (λ p l k. look-gap DEAD-STATE r rs p (omega arith) (omega arith)))
     (values-more f (m + a) b c
     ∙ ap₂ (λ (x y : List ℕ). x ++ y)
-    (values-one f (r .goal) (m + a) b (λ p l k. look-hit DEAD r rs p (omega arith) (omega arith)))
-    (ap (λ (k : ℕ). values f k c) two ∙ values-same f (goalAt DEAD rs) (min (suc (r .high)) 128) c (λ p l k. look-past DEAD r rs p (omega arith))))
-    ∙ sym (append-assoc (replicate a DEAD) (replicate b (r .goal)) (values (goalAt DEAD rs) (min (suc (r .high)) 128) c))
+    (values-one f (r .goal) (m + a) b (λ p l k. look-hit DEAD-STATE r rs p (omega arith) (omega arith)))
+    (ap (λ (k : ℕ). values f k c) two ∙ values-same f (goalAt DEAD-STATE rs) (min (suc (r .high)) 128) c (λ p l k. look-past DEAD-STATE r rs p (omega arith))))
+    ∙ sym (append-assoc (replicate a DEAD-STATE) (replicate b (r .goal)) (values (goalAt DEAD-STATE rs) (min (suc (r .high)) 128) c))
 
 length-targets : (n low high goal : ℕ) → n ≤ min low 128 → low ≤ high → n + length (targetsOf n low high goal) ≡ min (suc high) 128
 unfolding targetsOf
 length-targets n low high goal h l =
     omega (
       arith,
-      length-append (replicate (min low 128 - n) DEAD) (replicate (min (suc high) 128 - min low 128) goal),
-      length-replicate (min low 128 - n) DEAD,
+      length-append (replicate (min low 128 - n) DEAD-STATE) (replicate (min (suc high) 128 - min low 128) goal),
+      length-replicate (min low 128 - n) DEAD-STATE,
       length-replicate (min (suc high) 128 - min low 128) goal,
     )
 
@@ -133,7 +134,8 @@ pub record Filling (ts segs ps : List ℕ) (count : ℕ) (old : List ℕ) (k m :
   pub fits : 128 ≤ length out
   pub most : m ≤ 128
   pub order : Sorted m (aimed (targetAt ts) segs ps (count - k) k)
-  pub going : Going (asciiPart (aimed (targetAt ts) segs ps count 0)) 0 old (values (goalAt DEAD (aimed (targetAt ts) segs ps (count - k) k)) m (128 - m)) m out
+  pub going : Going (asciiPart (aimed (targetAt ts) segs ps count 0)) 0 old
+      (values (goalAt DEAD-STATE (aimed (targetAt ts) segs ps (count - k) k)) m (128 - m)) m out
 
 module _ (ts segs ps : List ℕ) (count : ℕ) (old : List ℕ) where
   abbrev all : List ℕ
@@ -148,8 +150,8 @@ module _ (ts segs ps : List ℕ) (count : ℕ) (old : List ℕ) where
         fits = w .room;
         most = omega arith;
         order = subst (Sorted 0) same (w .order (targetAt ts));
-        going = subst (λ (rs : Row). Going all 0 old (values (goalAt DEAD rs) 0 128) 0 old) same
-            (going-start all 0 old (omega (arith, w .room, length-values (goalAt DEAD (aimed (targetAt ts) segs ps count 0)) 0 128)));
+        going = subst (λ (rs : Row). Going all 0 old (values (goalAt DEAD-STATE rs) 0 128) 0 old) same
+            (going-start all 0 old (omega (arith, w .room, length-values (goalAt DEAD-STATE (aimed (targetAt ts) segs ps count 0)) 0 128)));
       }
 
   module _ {k m : ℕ} {out : List ℕ} (h : Filling ts segs ps count old k m out) where
@@ -181,29 +183,30 @@ module _ (ts segs ps : List ℕ) (count : ℕ) (old : List ℕ) where
       ascii-turn {x} {r} {new} i q =
           let p : Put (targetsOf m low high goal) m out r new = subst (λ (y : ℕ). Put (targetsOf m low high y) m out r new) i q in
           let e : r ≡ min (suc high) 128 = p .next ∙ length-targets m low high goal ascii-low ascii-high in
-          let is : values (goalAt DEAD (aimed (targetAt ts) segs ps (count - k) k)) m (128 - m) ≡
-          targetsOf m low high goal ++ values (goalAt DEAD rest) r (128 - r) =
-          ap (λ (rs : Row). values (goalAt DEAD rs) m (128 - m)) (aimed-turn (targetAt ts) segs ps count k n)
+          let is : values (goalAt DEAD-STATE (aimed (targetAt ts) segs ps (count - k) k)) m (128 - m) ≡
+          targetsOf m low high goal ++ values (goalAt DEAD-STATE rest) r (128 - r) =
+          ap (λ (rs : Row). values (goalAt DEAD-STATE rs) m (128 - m)) (aimed-turn (targetAt ts) segs ps count k n)
           ∙ ascii-open (rangeOf low high goal) rest m (h .most) opened
-          ∙ ap (λ (y : ℕ). targetsOf m low high goal ++ values (goalAt DEAD rest) y (128 - y)) (sym e) in
+          ∙ ap (λ (y : ℕ). targetsOf m low high goal ++ values (goalAt DEAD-STATE rest) y (128 - y)) (sym e) in
           record {
             points = h .points;
             each-place = h .each-place;
             fits = omega (arith, put-size p, h .fits);
             most = omega arith;
             order = sorted-weaken (suc high) r rest (omega arith) (opened .2);
-            going = going-turn all 0 old (values (goalAt DEAD rest) r (128 - r)) m out (targetsOf m low high goal) p
+            going = going-turn all 0 old (values (goalAt DEAD-STATE rest) r (128 - r)) m out (targetsOf m low high goal) p
                 (subst (λ (y : List ℕ). Going all 0 old y m out) is (h .going));
           }
 
-    pub ascii-done : {r : ℕ} {new : List ℕ} → count ≤ k → Stretch DEAD m 128 out r new → Put (asciiPart (aimed (targetAt ts) segs ps count 0)) 0 old r new
+    pub ascii-done : {r : ℕ} {new : List ℕ} → count ≤ k → Stretch DEAD-STATE m 128 out r new → Put (asciiPart (aimed (targetAt ts) segs ps count 0)) 0 old r new
     unfolding goalAt
     ascii-done n p =
-        let is : values (goalAt DEAD (aimed (targetAt ts) segs ps (count - k) k)) m (128 - m) ≡ replicate (128 - m) DEAD ++ [] =
-        ap (λ (rs : Row). values (goalAt DEAD rs) m (128 - m)) (aimed-done (targetAt ts) segs ps count k n)
-        ∙ values-one (goalAt DEAD []) DEAD m (128 - m) (λ p l h. refl)
-        ∙ sym (append-nil (replicate (128 - m) DEAD)) in
-        going-done all 0 old (going-turn all 0 old [] m out (replicate (128 - m) DEAD) (p .put) (subst (λ (y : List ℕ). Going all 0 old y m out) is (h .going)))
+        let is : values (goalAt DEAD-STATE (aimed (targetAt ts) segs ps (count - k) k)) m (128 - m) ≡ replicate (128 - m) DEAD-STATE ++ [] =
+        ap (λ (rs : Row). values (goalAt DEAD-STATE rs) m (128 - m)) (aimed-done (targetAt ts) segs ps count k n)
+        ∙ values-one (goalAt DEAD-STATE []) DEAD-STATE m (128 - m) (λ p l h. refl)
+        ∙ sym (append-nil (replicate (128 - m) DEAD-STATE)) in
+        going-done all 0 old
+        (going-turn all 0 old [] m out (replicate (128 - m) DEAD-STATE) (p .put) (subst (λ (y : List ℕ). Going all 0 old y m out) is (h .going)))
 
 pub ruleset targeting =
     (needs, ascii-start, ascii-low, ascii-high, ascii-turn, ascii-done)

@@ -6,11 +6,12 @@ use mathlib.Core.Bool.{Bool, true, false, _||_}
 use mathlib.Core.List.{List, [], _∷_, _++_}
 use lib.Dec.{eqb, ltb}
 use lib.ListN.{length, getD, replicate}
+use Rattle.refusal.specs.Fixed.{DEAD-STATE}
 use Rattle.refusal.specs.Said.{ok}
 use Rattle.refusal.specs.Lists.{pick}
 use Rattle.law_tables.specs.Table.{Range}
 use Rattle.buffer.specs.Over.{lay, Put}
-use Rattle.law_rows.specs.Row.{Row, DEAD, Sorted, numbers, joinTo, partFrom, asciiPart}
+use Rattle.law_rows.specs.Row.{Row, Sorted, numbers, joinTo, partFrom, asciiPart}
 use Rattle.row_goals.specs.Goals.{targetAt, goalOf}
 use Rattle.row_goals.specs.Edges.{noGoal, firstOf}
 use Rattle.row_build.specs.declared.Rows.{Rows}
@@ -49,7 +50,7 @@ pub record Stretch (x n end : ℕ) (old : List ℕ) (r : ℕ) (new : List ℕ) :
 
 -- the ascii targets from n on to behind a range: dead ones before it, then its own
 unfoldable pub targetsOf : ℕ → ℕ → ℕ → ℕ → List ℕ
-targetsOf n low high goal = replicate (min low 128 - n) DEAD ++ replicate (min (suc high) 128 - min low 128) goal
+targetsOf n low high goal = replicate (min low 128 - n) DEAD-STATE ++ replicate (min (suc high) 128 - min low 128) goal
 
 -- `count` segments stand, with a place for each, and `out` can take a range for each and one more ..
 pub record Spaced (segments places : List ℕ) (count : ℕ) (out : List ℕ) : Type 0 where

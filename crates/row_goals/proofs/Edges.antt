@@ -6,6 +6,7 @@ use native.Mathlib.Omega.{arith}
 use borrow.Author.Needs.{needs}
 use borrow.Author.Tests.{eq-eqb, ne-eqb, lt-ltb, le-ltb}
 use lib.Dec.{eqb, ltb}
+use Rattle.refusal.specs.Fixed.{NONE, DEAD-STATE}
 use Rattle.row_goals.specs.Edges.{noGoal, firstOf}
 
 -- The test
@@ -26,13 +27,13 @@ pub ruleset touching = (needs, touch-by-goal, no-touch-gap, no-touch-over)
 
 module _ (e : Bool) where
   module _ (high goal : ℕ) where
-    pub unseen-escape : {r : Bool} → e ≡ true → r ≡ eqb goal 4294967295 → r ≡ (ltb high (firstOf e) || eqb goal (noGoal e))
+    pub unseen-escape : {r : Bool} → e ≡ true → r ≡ eqb goal NONE → r ≡ (ltb high (firstOf e) || eqb goal (noGoal e))
     unseen-escape h i = let l : 0 ≤ high = omega arith in rw (h, le-ltb high 0 l) i
 
     pub unseen-below : e ≡ false → high < 128 → true ≡ (ltb high (firstOf e) || eqb goal (noGoal e))
     unseen-below h l = rw (h, lt-ltb high 128 l)
 
-    pub unseen-dead : {r : Bool} → e ≡ false → 128 ≤ high → r ≡ eqb goal 65535 → r ≡ (ltb high (firstOf e) || eqb goal (noGoal e))
+    pub unseen-dead : {r : Bool} → e ≡ false → 128 ≤ high → r ≡ eqb goal DEAD-STATE → r ≡ (ltb high (firstOf e) || eqb goal (noGoal e))
     unseen-dead h l i = rw (h, le-ltb high 128 l) i
 
   module _ (low : ℕ) where

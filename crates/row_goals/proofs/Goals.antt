@@ -8,7 +8,7 @@ use native.Mathlib.Omega.{arith}
 use borrow.Author.Needs.{needs}
 use borrow.Author.Tests.{eq-eqb, ne-eqb}
 use lib.ListN.{length, getD, List·getD-eq-default}
-use Rattle.refusal.specs.Fixed.{NONE}
+use Rattle.refusal.specs.Fixed.{NONE, DEAD-STATE}
 use Rattle.row_goals.specs.Goals.{targetAt, goalOf, differs, refusalOf}
 
 -- What a place was given
@@ -28,11 +28,11 @@ module _ (l : List ℕ) (k d : ℕ) where
 pub ruleset giving = (needs, given-there, given-none)
 
 module _ (e : Bool) (ts cs : List ℕ) (k : ℕ) {x : ℕ} (t : x ≡ targetAt ts k) where
-  pub goal-dead : e ≡ true → x ≡ 65535 → NONE ≡ goalOf e ts cs k
-  goal-dead h d = rw (h, eq-eqb (targetAt ts k) 65535 (sym t ∙ d))
+  pub goal-dead : e ≡ true → x ≡ DEAD-STATE → NONE ≡ goalOf e ts cs k
+  goal-dead h d = rw (h, eq-eqb (targetAt ts k) DEAD-STATE (sym t ∙ d))
 
-  pub goal-cont : {r : ℕ} → e ≡ true → (x ≡ 65535 → ⊥) → r ≡ getD cs k NONE → r ≡ goalOf e ts cs k
-  goal-cont h d c = rw (h, ne-eqb (targetAt ts k) 65535 (λ i. d (t ∙ i))) c
+  pub goal-cont : {r : ℕ} → e ≡ true → (x ≡ DEAD-STATE → ⊥) → r ≡ getD cs k NONE → r ≡ goalOf e ts cs k
+  goal-cont h d c = rw (h, ne-eqb (targetAt ts k) DEAD-STATE (λ i. d (t ∙ i))) c
 
   pub goal-target : {r : ℕ} → e ≡ false → r ≡ x → r ≡ goalOf e ts cs k
   goal-target h n = rw h (n ∙ t)

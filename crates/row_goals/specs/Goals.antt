@@ -1,5 +1,5 @@
--- What row building asks of one segment or of one call. One definition for both kinds of row, e says which: an escape row, or one of targets. 65535 is the dead
--- state. Assumes nothing.
+-- What row building asks of one segment or of one call. One definition for both kinds of row, e says which: an escape row, or one of targets. Assumes
+-- nothing.
 use Prim.Native.Nat.{ℕ}
 use mathlib.Core.Bool.{Bool, true, false, _&&_}
 use mathlib.Core.List.{List}
@@ -7,15 +7,15 @@ use lib.Dec.{eqb}
 use lib.ListN.{getD}
 use Rattle.refusal.specs.Said.{ROOM, TARGETS}
 use Rattle.refusal.specs.Lists.{pick}
-use Rattle.refusal.specs.Fixed.{NONE}
+use Rattle.refusal.specs.Fixed.{NONE, DEAD-STATE}
 
 -- the target that a place was given; behind the last place nothing was given
 abbrev pub targetAt : List ℕ → ℕ → ℕ
-targetAt targets k = getD targets k 65535
+targetAt targets k = getD targets k DEAD-STATE
 
 -- .. or, for an escape row, the continuation, and none where the target is dead
 abbrev pub goalOf : Bool → List ℕ → List ℕ → ℕ → ℕ
-goalOf e targets conts k = pick e (pick (eqb (targetAt targets k) 65535) NONE (getD conts k NONE)) (targetAt targets k)
+goalOf e targets conts k = pick e (pick (eqb (targetAt targets k) DEAD-STATE) NONE (getD conts k NONE)) (targetAt targets k)
 
 -- "targets or continuations differ in number from distinct masks": d is how many distinct masks there are
 abbrev pub differs : ℕ → ℕ → ℕ → Bool

@@ -11,7 +11,7 @@ use borrow.Author.Needs.{needs}
 use borrow.Author.Tests.{lt-ltb, le-ltb, eq-eqb, ne-eqb}
 use lib.Dec.{ltb, eqb}
 use lib.ListN.{length, getD, drop}
-use Rattle.refusal.specs.Fixed.{NONE}
+use Rattle.refusal.specs.Fixed.{NONE, ESCAPE-STATE, DEAD-STATE}
 use Rattle.refusal.specs.Lists.{pick}
 use Rattle.program_io.specs.Shown.{Shown}
 use Rattle.tableshow.specs.Joined.{joined, ifLess, ifSame}
@@ -272,11 +272,11 @@ pub starts-at : (m s : ℕ) → (s ≡ NONE → ⊥) → formed 122 m s 0 ≡ st
 unfolding drawn formed filled forms joined ifLess ifSame piece glyphOf digitIn numberIn exitIn lowIn highIn
 starts-at m s h = rw (ne-eqb s NONE h)
 
-pub end-to : (x : ℕ) → (x ≡ 65534 → ⊥) → (x ≡ 65535 → ⊥) → formed 623 x 0 0 ≡ endTarget x
+pub end-to : (x : ℕ) → (x ≡ ESCAPE-STATE → ⊥) → (x ≡ DEAD-STATE → ⊥) → formed 623 x 0 0 ≡ endTarget x
 unfolding drawn formed filled forms joined ifLess ifSame piece glyphOf digitIn numberIn exitIn lowIn highIn
-end-to x h k = rw (ne-eqb x 65534 h, ne-eqb x 65535 k, append-nil (number x))
+end-to x h k = rw (ne-eqb x ESCAPE-STATE h, ne-eqb x DEAD-STATE k, append-nil (number x))
 
-pub end-escape : (x : ℕ) → x ≡ 65534 → formed 640 x 0 0 ≡ endTarget x
+pub end-escape : (x : ℕ) → x ≡ ESCAPE-STATE → formed 640 x 0 0 ≡ endTarget x
 unfolding drawn formed filled forms joined ifLess ifSame piece glyphOf digitIn numberIn exitIn lowIn highIn
 end-escape x h = rw h
 

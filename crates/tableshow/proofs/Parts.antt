@@ -9,7 +9,7 @@ use borrow.Author.Needs.{needs}
 use borrow.Author.Tests.{lt-ltb, le-ltb, eq-eqb, ne-eqb}
 use lib.ListN.{length, getD}
 use Rattle.refusal.specs.Said.{Said}
-use Rattle.refusal.specs.Fixed.{NONE}
+use Rattle.refusal.specs.Fixed.{NONE, DEAD-STATE}
 use Rattle.refusal.specs.Lists.{pick}
 use Rattle.look_accepts.specs.Record.{recordOf}
 use Rattle.look_modes.specs.Start.{modeStart}
@@ -58,13 +58,13 @@ module _ (t next p : ℕ) where
   unfolding itemsAfter
   items-same h = rw (eq-eqb t next h)
 
-  pub items-dead : (t ≡ next → ⊥) → t ≡ 65535 → p ≡ itemsAfter t next p
+  pub items-dead : (t ≡ next → ⊥) → t ≡ DEAD-STATE → p ≡ itemsAfter t next p
   unfolding itemsAfter
-  items-dead h k = rw (ne-eqb t next h, eq-eqb t 65535 k)
+  items-dead h k = rw (ne-eqb t next h, eq-eqb t DEAD-STATE k)
 
-  pub items-on : {r : ℕ} → r ≡ after p → (t ≡ next → ⊥) → (t ≡ 65535 → ⊥) → r ≡ itemsAfter t next p
+  pub items-on : {r : ℕ} → r ≡ after p → (t ≡ next → ⊥) → (t ≡ DEAD-STATE → ⊥) → r ≡ itemsAfter t next p
   unfolding itemsAfter
-  items-on e h k = e ∙ (rw (ne-eqb t next h, ne-eqb t 65535 k))
+  items-on e h k = e ∙ (rw (ne-eqb t next h, ne-eqb t DEAD-STATE k))
 
   pub low-same : (y : ℕ) → t ≡ next → p ≡ lowAfter t next p y
   unfolding lowAfter
@@ -79,21 +79,21 @@ module _ (t v low x p : ℕ) {n : ℕ} {d : List ℕ} where
   unfolding edge
   edge-same h = if-same t v [] _ h (shown-none n d)
 
-  pub edge-dead : (t ≡ v → ⊥) → t ≡ 65535 → Shown (edge t v low x p) n d n d
+  pub edge-dead : (t ≡ v → ⊥) → t ≡ DEAD-STATE → Shown (edge t v low x p) n d n d
   unfolding edge
-  edge-dead h k = if-not-same t v [] _ h (if-same t 65535 [] _ k (shown-none n d))
+  edge-dead h k = if-not-same t v [] _ h (if-same t DEAD-STATE [] _ k (shown-none n d))
 
-  pub edge-on : {r : ℕ} {new : List ℕ} → Shown (item p low x 0 t) n d r new → (t ≡ v → ⊥) → (t ≡ 65535 → ⊥) →
+  pub edge-on : {r : ℕ} {new : List ℕ} → Shown (item p low x 0 t) n d r new → (t ≡ v → ⊥) → (t ≡ DEAD-STATE → ⊥) →
       Shown (edge t v low x p) n d r new
   unfolding edge
-  edge-on q h k = if-not-same t v [] _ h (if-not-same t 65535 [] _ k q)
+  edge-on q h k = if-not-same t v [] _ h (if-not-same t DEAD-STATE [] _ k q)
 
 module _ (w : List ℕ) (s x : ℕ) where
-  pub on-ascii : {r : ℕ} {g : Said} → r ≡ orElse 65535 g → g ≡ asciiTarget w s x → x < 128 → r ≡ targetOn w s x
+  pub on-ascii : {r : ℕ} {g : Said} → r ≡ orElse DEAD-STATE g → g ≡ asciiTarget w s x → x < 128 → r ≡ targetOn w s x
   unfolding targetOn
   on-ascii e i h = e ∙ (rw (← i, lt-ltb x 128 h))
 
-  pub on-past : 128 ≤ x → 65535 ≡ targetOn w s x
+  pub on-past : 128 ≤ x → DEAD-STATE ≡ targetOn w s x
   unfolding targetOn
   on-past h = rw (le-ltb x 128 h)
 
@@ -212,8 +212,8 @@ module _ {n : ℕ} {d : List ℕ} {r : ℕ} {new : List ℕ} (f : ℕ) where
         Shown (modeText w s) n d r new
     start-put p h a b = rw (← b, ← a) (rw (h s) at p)
 
-    pub end-put : Shown (formed f k 0 0) n d r new → formed f k 0 0 ≡ endTarget k → k ≡ orElse 65535 g → g ≡ eofTarget w s →
-        Shown (endTarget (orElse 65535 (eofTarget w s))) n d r new
+    pub end-put : Shown (formed f k 0 0) n d r new → formed f k 0 0 ≡ endTarget k → k ≡ orElse DEAD-STATE g → g ≡ eofTarget w s →
+        Shown (endTarget (orElse DEAD-STATE (eofTarget w s))) n d r new
     end-put p h a b = rw (← b, ← a) (rw h at p)
 
     pub continuation-put : Shown (formed f k 0 0) n d r new → formed f k 0 0 ≡ endContinuation k → k ≡ orElse NONE g → g ≡ eofContinuation w s →

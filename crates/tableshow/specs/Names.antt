@@ -2,6 +2,7 @@
 use Prim.Native.Nat.{ℕ, _+_, _/_, _%_}
 use mathlib.Core.List.{List, [], _∷_}
 use lib.Dec.{ltb}
+use Rattle.refusal.specs.Fixed.{ESCAPE-STATE, DEAD-STATE}
 use Rattle.refusal.specs.Lists.{pick}
 use Rattle.program_io.specs.Decimal.{number}
 use Rattle.tableshow.specs.Joined.{joined, ifLess, ifSame}
@@ -42,8 +43,8 @@ point x = ifLess x 128 (symbol x) (joined (code-point ∷ front (x / 65536) ∷ 
 abbrev pub range : ℕ → ℕ → List ℕ
 range low high = ifSame low high (point low) (joined (point low ∷ dots ∷ point high ∷ []))
 
--- where an edge leads: kind 0 is a target, with "`ESCAPE_STATE` 65534, `DEAD_STATE` 65535" by name, and kind 1 a continuation
+-- where an edge leads: kind 0 is a target, the escape and the dead state by name, and kind 1 a continuation
 abbrev pub target : ℕ → ℕ → List ℕ
 target kind t =
     ifSame kind 1 (joined (to-continuation ∷ number t ∷ []))
-    (ifSame t 65534 escape-target (ifSame t 65535 dead-target (joined (arrow ∷ number t ∷ []))))
+    (ifSame t ESCAPE-STATE escape-target (ifSame t DEAD-STATE dead-target (joined (arrow ∷ number t ∷ []))))

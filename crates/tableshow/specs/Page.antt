@@ -3,7 +3,7 @@ use Prim.Native.Nat.{ℕ, _+_, _/_, _%_}
 use mathlib.Core.List.{List, [], _∷_, _++_}
 use lib.ListN.{getD}
 use Rattle.refusal.specs.Said.{Said, ok, no}
-use Rattle.refusal.specs.Fixed.{NONE}
+use Rattle.refusal.specs.Fixed.{NONE, DEAD-STATE}
 use Rattle.look_modes.specs.Start.{modeStart}
 use Rattle.look_targets.specs.Targets.{eofTarget}
 use Rattle.look_accepts.specs.Accept.{acceptOf}
@@ -68,14 +68,14 @@ runLine w p = runText (getD w p 0) (getD w (p + 1) 0) (getD w (p + 2) 0)
 -- What the end of the input leads to
 
 abbrev pub endTarget : ℕ → List ℕ
-endTarget x = ifSame x 65535 [] (joined (t.end-label ∷ target 0 x ∷ t.end-line ∷ []))
+endTarget x = ifSame x DEAD-STATE [] (joined (t.end-label ∷ target 0 x ∷ t.end-line ∷ []))
 
 abbrev pub endContinuation : ℕ → List ℕ
 endContinuation x = ifSame x NONE [] (joined (t.end-label ∷ target 1 x ∷ t.end-line ∷ []))
 
 abbrev pub restText : List ℕ → ℕ → List ℕ
 restText w s =
-    joined (wideText w s ∷ escapesText w s ∷ endTarget (orElse 65535 (eofTarget w s)) ∷ endContinuation (orElse NONE (eofContinuation w s)) ∷ [])
+    joined (wideText w s ∷ escapesText w s ∷ endTarget (orElse DEAD-STATE (eofTarget w s)) ∷ endContinuation (orElse NONE (eofContinuation w s)) ∷ [])
 
 -- All of a state
 abbrev pub stateText : List ℕ → ℕ → List ℕ

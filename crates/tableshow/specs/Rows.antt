@@ -3,6 +3,7 @@ use Prim.Native.Nat.{ℕ, zero, suc, _+_, _*_}
 use mathlib.Core.List.{List, [], _∷_, _++_}
 use lib.Dec.{ltb, eqb}
 use lib.ListN.{getD}
+use Rattle.refusal.specs.Fixed.{DEAD-STATE}
 use Rattle.refusal.specs.Said.{Said, ok, no}
 use Rattle.refusal.specs.Lists.{pick}
 use Rattle.look_targets.specs.Targets.{asciiTarget}
@@ -34,18 +35,18 @@ orElse d (no n p) = d
 
 -- the target on a symbol; there is none past 127
 unfoldable pub targetOn : List ℕ → ℕ → ℕ → ℕ
-targetOn w s x = pick (ltb x 128) (orElse 65535 (asciiTarget w s x)) 65535
+targetOn w s x = pick (ltb x 128) (orElse DEAD-STATE (asciiTarget w s x)) DEAD-STATE
 
 -- the range from `low` to x ends where the target t is not that of the next symbol, and is left out where t is dead
 unfoldable pub edge : ℕ → ℕ → ℕ → ℕ → ℕ → List ℕ
-edge t next low x p = ifSame t next [] (ifSame t 65535 [] (item p low x 0 t))
+edge t next low x p = ifSame t next [] (ifSame t DEAD-STATE [] (item p low x 0 t))
 
 -- where the next range starts, and the items on the line
 unfoldable pub lowAfter : ℕ → ℕ → ℕ → ℕ → ℕ
 lowAfter t next low y = pick (eqb t next) low y
 
 unfoldable pub itemsAfter : ℕ → ℕ → ℕ → ℕ
-itemsAfter t next p = pick (eqb t next) p (pick (eqb t 65535) p (after p))
+itemsAfter t next p = pick (eqb t next) p (pick (eqb t DEAD-STATE) p (after p))
 
 -- the same at a symbol of the row
 unfoldable pub edgeAt : List ℕ → ℕ → ℕ → ℕ → ℕ → List ℕ

@@ -1,7 +1,7 @@
 // The parts of a page: the head, a mode, a state, a refusal. A function `.._form` chooses among the forms of a line.
 ghost use mathlib.Core.Path.{_≡_};
 ghost use Prim.Native.Nat.{ℕ};
-ghost use Rattle.refusal.specs.Fixed.{NONE as none};
+ghost use Rattle.refusal.specs.Fixed.{NONE as none, DEAD-STATE};
 ghost use Rattle.refusal.specs.Lists.{pick};
 ghost use Rattle.look_accepts.specs.Record as recorded;
 ghost use Rattle.look_continuations.specs.Continuation as continued;
@@ -13,6 +13,8 @@ ghost use Rattle.tableshow.specs.Rows.{orElse, runAt};
 ghost use Rattle.tableshow.specs.Page.{part, recordLine, saidLine, acceptText, headText, untilText, rangesLine, runText, runLine, endTarget};
 ghost use Rattle.tableshow.specs.Page.{endContinuation, restText, stateText, startLine, modeText, tableText, ruleText, reasonText, refusalText};
 use crate::forms;
+use crate::rows::DEAD;
+use crate::rows::ESCAPE;
 use crate::rows::number_or;
 use crate::rows::put_ascii;
 use crate::rows::put_escapes;
@@ -192,16 +194,16 @@ fn end_form(to: u32) -> usize
     ensures { λ r. ⌜ formed r to 0 0 ≡ endTarget to ⌝ }
 {
     match to {
-        65535 => forms::NOTHING,
-        65534 => forms::END_ESCAPE,
+        DEAD => forms::NOTHING,
+        ESCAPE => forms::END_ESCAPE,
         _ => forms::END_TO,
     }
 }
 
 fn put_end_of(room: &[u32], state: u16, page: &mut [u8], n: usize) -> usize
-    ensures { λ r. ⌜ Shown (endTarget (orElse 65535 (eofTarget (now (room .entry)) state))) n (now (page .entry)) r (now (page .exit)) ⌝ }
+    ensures { λ r. ⌜ Shown (endTarget (orElse DEAD-STATE (eofTarget (now (room .entry)) state))) n (now (page .entry)) r (now (page .exit)) ⌝ }
 {
-    let to = number_or(look_targets::eof_target(room, state), 65535);
+    let to = number_or(look_targets::eof_target(room, state), DEAD);
     put_form(end_form(to), to as u64, 0, 0, page, n)
 }
 

@@ -13,8 +13,15 @@ ghost use Rattle.tableshow.specs.Rows.{gap, after, ending, item, orElse,
 ghost use Rattle.tableshow.specs.Rows.{rowText, listed, runAt, wideAt, escapesAt, wideRow, firstWith, wideWith, wideText, escapesText};
 use crate::forms;
 use crate::text::put_form;
+use refusal::DEAD_STATE;
+use refusal::ESCAPE_STATE;
 use room_find::Answer;
 use rule_words::word_at;
+
+// What a target's number may be beside a state's.
+pub(crate) const ESCAPE: u32 = ESCAPE_STATE as u32;
+
+pub(crate) const DEAD: u32 = DEAD_STATE as u32;
 
 // A range behind what parts it from the one before: `items` says how many stand on the line.
 fn gap_form(items: u32) -> usize
@@ -52,8 +59,8 @@ fn target_form(kind: u32, to: u32) -> usize
         return forms::TO_CONTINUATION;
     }
     match to {
-        65534 => forms::TO_ESCAPE,
-        65535 => forms::TO_DEAD,
+        ESCAPE => forms::TO_ESCAPE,
+        DEAD => forms::TO_DEAD,
         _ => forms::TO,
     }
 }
@@ -82,9 +89,9 @@ fn target_on(room: &[u32], state: u16, symbol: u32) -> u32
     ensures { λ r. ⌜ r ≡ targetOn (now (room .entry)) state symbol ⌝ }
 {
     if symbol < 128 {
-        return number_or(look_targets::ascii_target(room, state, symbol as u8), 65535);
+        return number_or(look_targets::ascii_target(room, state, symbol as u8), DEAD);
     }
-    65535
+    DEAD
 }
 
 // The range from `low` to `symbol`, if it ends there and is not dead.
@@ -102,7 +109,7 @@ fn put_edge(
     if to == next {
         return n;
     }
-    if to == 65535 {
+    if to == DEAD {
         return n;
     }
     put_item(items, low, symbol, 0, to, page, n)
@@ -123,7 +130,7 @@ fn items_after(to: u32, next: u32, items: u32) -> u32
     if to == next {
         return items;
     }
-    if to == 65535 {
+    if to == DEAD {
         return items;
     }
     after(items)
