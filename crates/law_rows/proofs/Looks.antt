@@ -16,7 +16,7 @@ use Rattle.list_segments.specs.Segments.{cutsOf, starts}
 use Rattle.list_masks.proofs.Packs.{length-hold, every-mask}
 use Rattle.list_masks.proofs.Keeps.{Has, every-distinct}
 use Rattle.law_rows.specs.Build.{targetOf}
-use Rattle.law_rows.specs.Demand.{heldBy, maskBit, Exactly, Looked}
+use Rattle.law_rows.specs.Demand.{heldBy, maskBit, HoldersMask, Looked}
 use Rattle.law_rows.proofs.Masks.{Blank, bit-inj, blank-zero, zero-blank, pack-bit}
 use Rattle.law_rows.proofs.Distinct.{has-at, once-distinct, every-at}
 use Rattle.law_rows.proofs.Built.{given-none, given-at, target-law, cont-law, place-law}
@@ -44,7 +44,7 @@ record Mask (ts : List Transition) (m : List ℕ) : Type 0 where
 
 module _ (ts : List Transition) where
   -- bit i of a point's mask says whether transition i holds the point
-  pub mask-exact : (p : ℕ) → Exactly ts p (maskOf ts p)
+  pub mask-exact : (p : ℕ) → HoldersMask ts p (maskOf ts p)
   unfolding maskOf
   mask-exact p i h =
       let parts : 64 * (i / 64) + i % 64 ≡ i = omega arith in
@@ -53,7 +53,7 @@ module _ (ts : List Transition) where
       ∙ ap bit (getD-holdAt ts i p h)
 
   -- .. so that it is the mask of no other transitions
-  mask-one : (p q : ℕ) → Exactly ts p (maskOf ts q) → maskOf ts q ≡ maskOf ts p
+  mask-one : (p q : ℕ) → HoldersMask ts p (maskOf ts q) → maskOf ts q ≡ maskOf ts p
   unfolding maskOf
   mask-one p q e =
       ap (pack (wordsFor (length ts)))
@@ -87,7 +87,7 @@ module _ (ts : List Transition) where
   distinct-once : (k : ℕ) → k < length (distinctOf ts) → index (distinctOf ts) (getD (distinctOf ts) k []) ≡ k
   distinct-once = once-distinct [] (matrix ts) (λ k h. absurd (omega arith))
 
-  alone : (p k : ℕ) → k < length (distinctOf ts) → Exactly ts p (getD (distinctOf ts) k []) → k ≡ index (distinctOf ts) (maskOf ts p)
+  alone : (p k : ℕ) → k < length (distinctOf ts) → HoldersMask ts p (getD (distinctOf ts) k []) → k ≡ index (distinctOf ts) (maskOf ts p)
   alone p k h e =
       let m : Mask ts (getD (distinctOf ts) k []) = distinct-mask k h in
       let same : getD (distinctOf ts) k [] ≡ maskOf ts p = m .is ∙ mask-one p (m .point) (λ i l. ap (λ (x : List ℕ). maskBit x i) (sym (m .is)) ∙ e i l) in

@@ -25,8 +25,8 @@ abbrev pub maskBit : List ℕ → ℕ → ℕ
 maskBit m i = getD m (i / 64) 0 / 2 ^ (i % 64) % 2
 
 -- a mask is of "exactly the transitions holding that point"
-abbrev pub Exactly : List Transition → ℕ → List ℕ → Type 0
-Exactly ts p m = (i : ℕ) → i < length ts → maskBit m i ≡ bit (heldBy ts i p)
+abbrev pub HoldersMask : List Transition → ℕ → List ℕ → Type 0
+HoldersMask ts p m = (i : ℕ) → i < length ts → maskBit m i ≡ bit (heldBy ts i p)
 
 -- what is looked up in the rows of a build
 abbrev pub targetAt : List Transition → List ℕ → ℕ → ℕ
@@ -40,8 +40,8 @@ contAt ts targets conts p = goalAt NONE (escapeOf ts targets conts) p
 pub record Placed (ts : List Transition) (targets conts : List ℕ) (p : ℕ) : Type 0 where
   pub place : ℕ
   pub within : place < length (distinctOf ts)
-  pub exactly : Exactly ts p (getD (distinctOf ts) place [])
-  pub alone : (k : ℕ) → k < length (distinctOf ts) → Exactly ts p (getD (distinctOf ts) k []) → k ≡ place
+  pub exactly : HoldersMask ts p (getD (distinctOf ts) place [])
+  pub alone : (k : ℕ) → k < length (distinctOf ts) → HoldersMask ts p (getD (distinctOf ts) k []) → k ≡ place
   pub target : targetAt ts targets p ≡ getD targets place DEAD-STATE
   pub cont-dead : getD targets place DEAD-STATE ≡ DEAD-STATE → contAt ts targets conts p ≡ NONE
   pub cont-live : (getD targets place DEAD-STATE ≡ DEAD-STATE → ⊥) → contAt ts targets conts p ≡ getD conts place NONE

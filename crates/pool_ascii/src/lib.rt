@@ -4,7 +4,7 @@ ghost use Prim.Native.Nat.{_+_, _*_, _≤_};
 ghost use lib.ListN.{length, take, drop};
 ghost use Rattle.refusal.specs.Lists.{sameList, firstEqual};
 ghost use Rattle.buffer.specs.Over.{Put};
-ghost use Rattle.pool_rows.specs.Pools.{ascii, rowsFrom, behind, append, findOrAppend, intern, Interns};
+ghost use Rattle.pool_rows.specs.Pools.{ascii, rowsFrom, afterRows, append, findOrAppend, intern, Interns};
 use pool_rows::Interned;
 use pool_rows::refuse;
 use refusal::FIELD;
@@ -29,7 +29,7 @@ fn same_at(pool: &[u16], at: usize, row: &[u16]) -> bool
 
 // The number of the first equal row, or how many rows there are.
 fn first_equal(pool: &[u16], rows: usize, row: &[u16]) -> usize
-    requires within { ⌜ behind ascii (now pool) rows 0 ≤ length (now pool) ⌝ }
+    requires within { ⌜ afterRows ascii (now pool) rows 0 ≤ length (now pool) ⌝ }
     requires size { ⌜ length (now row) ≡ 128 ⌝ }
     ensures { λ r. ⌜ r ≡ firstEqual (now (row .entry)) (rowsFrom ascii (now (pool .entry)) rows 0) ⌝ }
 {

@@ -13,8 +13,8 @@ use Rattle.refusal.proofs.Lists.{equal-same}
 use Rattle.refusal.specs.Lists.{pick, sameList, firstEqual}
 use Rattle.buffer.specs.Over.{over, lay}
 use Rattle.buffer.proofs.Overs.{over-front}
-use Rattle.pool_rows.specs.Pools.{Kind, ascii, wide, standing, sizeAt, rowsFrom, behind, good, countable, found, firstIn, findOrAppend, intern}
-use Rattle.pool_rows.proofs.Rows.{behind-≥, threes-length}
+use Rattle.pool_rows.specs.Pools.{Kind, ascii, wide, standing, sizeAt, rowsFrom, afterRows, good, countable, found, firstIn, findOrAppend, intern}
+use Rattle.pool_rows.proofs.Rows.{after-≥, threes-length}
 
 -- Rows in the front p of a pool, whatever stands behind it
 
@@ -33,12 +33,12 @@ module _ (k : Kind) (p a b : List ℕ) where
       let l : n ≤ length (drop at p) = omega (arith, length-drop at p) in
       rw (drop-append-le at p a d, drop-append-le at p b d, take-append-le n (drop at p) a l, take-append-le n (drop at p) b l)
 
-  front-same : (n at : ℕ) → behind k (p ++ b) n at ≤ length p →
-      (rowsFrom k (p ++ a) n at ≡ rowsFrom k (p ++ b) n at) × (behind k (p ++ a) n at ≡ behind k (p ++ b) n at)
-  unfolding rowsFrom behind
+  front-same : (n at : ℕ) → afterRows k (p ++ b) n at ≤ length p →
+      (rowsFrom k (p ++ a) n at ≡ rowsFrom k (p ++ b) n at) × (afterRows k (p ++ a) n at ≡ afterRows k (p ++ b) n at)
+  unfolding rowsFrom afterRows
   front-same zero at h = (refl, refl)
   front-same (suc n) at h =
-      let f : at + sizeAt k (p ++ b) at ≤ length p = omega (arith, behind-≥ k (p ++ b) n (at + sizeAt k (p ++ b) at)) in
+      let f : at + sizeAt k (p ++ b) at ≤ length p = omega (arith, after-≥ k (p ++ b) n (at + sizeAt k (p ++ b) at)) in
       let e : sizeAt k (p ++ a) at ≡ sizeAt k (p ++ b) at = size-same k p a b at (omega (arith, size-some k (p ++ b) at)) in
       let r = front-same n (at + sizeAt k (p ++ b) at) h in
       (rw (e, part-same at (sizeAt k (p ++ b) at) f, r .0), rw (e, r .1))
@@ -46,15 +46,15 @@ module _ (k : Kind) (p a b : List ℕ) where
 -- One row more is the one behind the others
 
 module _ (k : Kind) (w : List ℕ) where
-  rows-last : (n at : ℕ) → rowsFrom k w (suc n) at ≡ rowsFrom k w n at ++ (take (sizeAt k w (behind k w n at)) (drop (behind k w n at) w) ∷ [])
-  unfolding rowsFrom behind
+  rows-last : (n at : ℕ) → rowsFrom k w (suc n) at ≡ rowsFrom k w n at ++ (take (sizeAt k w (afterRows k w n at)) (drop (afterRows k w n at) w) ∷ [])
+  unfolding rowsFrom afterRows
   rows-last zero at = refl
   rows-last (suc n) at = ap (λ (l : List (List ℕ)). take (sizeAt k w at) (drop at w) ∷ l) (rows-last n (at + sizeAt k w at))
 
-  behind-last : (n at : ℕ) → behind k w (suc n) at ≡ behind k w n at + sizeAt k w (behind k w n at)
-  unfolding behind
-  behind-last zero at = refl
-  behind-last (suc n) at = behind-last n (at + sizeAt k w at)
+  after-last : (n at : ℕ) → afterRows k w (suc n) at ≡ afterRows k w n at + sizeAt k w (afterRows k w n at)
+  unfolding afterRows
+  after-last zero at = refl
+  after-last (suc n) at = after-last n (at + sizeAt k w at)
 
   rows-length : (n at : ℕ) → length (rowsFrom k w n at) ≡ n
   unfolding rowsFrom
@@ -77,17 +77,17 @@ size-laid : (k : Kind) (p row r : List ℕ) → good k row ≡ true → sizeAt k
 size-laid ascii p row r g = sym (eqb-true (length row) 128 g)
 size-laid wide p row r g = rw (getD-append-seam p (length row / 3) (row ++ r) 0) (omega (arith, threes-length row g))
 
-module _ (k : Kind) (p q r : List ℕ) (n : ℕ) (row : List ℕ) (e : behind k (p ++ q) n 0 ≡ length p) (g : good k row ≡ true) where
+module _ (k : Kind) (p q r : List ℕ) (n : ℕ) (row : List ℕ) (e : afterRows k (p ++ q) n 0 ≡ length p) (g : good k row ≡ true) where
   abbrev v : List ℕ
   v = p ++ (standing k row ++ r)
 
-  laid-at : behind k v n 0 ≡ length p
+  laid-at : afterRows k v n 0 ≡ length p
   laid-at = front-same k p (standing k row ++ r) q n 0 (omega arith) .1 ∙ e
 
-  laid-end : behind k v (suc n) 0 ≡ length p + length (standing k row)
-  laid-end = behind-last k v n 0 ∙ rw laid-at (ap (λ (m : ℕ). length p + m) (size-laid k p row r g))
+  laid-end : afterRows k v (suc n) 0 ≡ length p + length (standing k row)
+  laid-end = after-last k v n 0 ∙ rw laid-at (ap (λ (m : ℕ). length p + m) (size-laid k p row r g))
 
-  laid-row : take (sizeAt k v (behind k v n 0)) (drop (behind k v n 0) v) ≡ standing k row
+  laid-row : take (sizeAt k v (afterRows k v n 0)) (drop (afterRows k v n 0) v) ≡ standing k row
   laid-row = rw (laid-at, size-laid k p row r g, drop-append-seam p (standing k row ++ r)) (take-append-seam (standing k row) r)
 
   laid-first : n ≤ firstIn k (p ++ q) n row → firstIn k v (suc n) row ≡ n
@@ -101,17 +101,17 @@ module _ (k : Kind) (p q r : List ℕ) (n : ℕ) (row : List ℕ) (e : behind k 
   laid-found c h =
       let l : length v ≡ length p + (length (standing k row) + length r)
       = length-append p (standing k row ++ r) ∙ ap (λ (m : ℕ). length p + m) (length-append (standing k row) r) in
-      let t : ltb (length v) (behind k v (suc n) 0) ≡ false = le-ltb (length v) (behind k v (suc n) 0) (omega (arith, laid-end)) in
+      let t : ltb (length v) (afterRows k v (suc n) 0) ≡ false = le-ltb (length v) (afterRows k v (suc n) 0) (omega (arith, laid-end)) in
       rw (t, g, c, laid-first h, lt-ltb n (suc n) (omega arith))
 
 pub found-again : (k : Kind) (w : List ℕ) (n : ℕ) (row : List ℕ) → good k row ≡ true → countable k row ≡ true → n ≤ firstIn k w n row →
-    behind k w n 0 + length (standing k row) ≤ length w → intern k (lay (behind k w n 0) (standing k row) w) (suc n) row ≡ found n
+    afterRows k w n 0 + length (standing k row) ≤ length w → intern k (lay (afterRows k w n 0) (standing k row) w) (suc n) row ≡ found n
 unfolding lay
 found-again k w n row g c h f =
-    let b = behind k w n 0 in
+    let b = afterRows k w n 0 in
     let s : take b w ++ drop b w ≡ w = take-append-drop b w in
     let l : length (take b w) ≡ b = length-take-le b w (omega arith) in
-    let e : behind k (take b w ++ drop b w) n 0 ≡ length (take b w) = ap (λ (x : List ℕ). behind k x n 0) s ∙ sym l in
+    let e : afterRows k (take b w ++ drop b w) n 0 ≡ length (take b w) = ap (λ (x : List ℕ). afterRows k x n 0) s ∙ sym l in
     let i : n ≤ firstIn k (take b w ++ drop b w) n row = omega (arith, ap (λ (x : List ℕ). firstIn k x n row) s) in
     let o : over (standing k row) (drop b w) ≡ standing k row ++ drop (length (standing k row)) (drop b w)
     = over-front (standing k row) (drop b w) (omega (arith, length-drop b w)) in

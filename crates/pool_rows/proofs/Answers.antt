@@ -5,7 +5,6 @@ use native.Mathlib.Omega.{arith}
 use mathlib.Core.Path.{_≡_, refl, sym, ap, subst, _∙_}
 use mathlib.Core.Bool.{Bool, true, false}
 use mathlib.Core.List.{List, _∷_}
-use lib.Dec.{ltb}
 use lib.ListN.{length, getD}
 use borrow.Author.Needs.{needs}
 use borrow.Author.Tests.{lt-ltb, le-ltb, le-leb, lt-leb, eq-eqb, ne-eqb}
@@ -15,34 +14,34 @@ use Rattle.refusal.specs.Fixed.{NONE}
 use Rattle.buffer.specs.Over.{Put}
 use Rattle.pool_rows.specs.declared.Interned.{Interned}
 use Rattle.pool_rows.specs.declared.Interned.the-variants.{At, Refused}
-use Rattle.pool_rows.specs.Pools.{Kind, ascii, wide, standing, rowsFrom, behind, inThrees, good, countable}
+use Rattle.pool_rows.specs.Pools.{Kind, ascii, wide, standing, rowsFrom, afterRows, inThrees, good, countable}
 use Rattle.pool_rows.specs.Pools.{append, firstIn, findOrAppend, intern, said, Interns}
 use Rattle.pool_rows.proofs.Rows.{threes-length}
 
 -- ascii rows end at a multiple of their size
-ascii-behind : (w : List ℕ) (n at : ℕ) → behind ascii w n at ≡ at + n * 128
-unfolding behind
-ascii-behind w zero at = omega arith
-ascii-behind w (suc n) at = ascii-behind w n (at + 128) ∙ (omega arith)
+ascii-after : (w : List ℕ) (n at : ℕ) → afterRows ascii w n at ≡ at + n * 128
+unfolding afterRows
+ascii-after w zero at = omega arith
+ascii-after w (suc n) at = ascii-after w n (at + 128) ∙ (omega arith)
 
-pub ascii-end : (w : List ℕ) (n : ℕ) → n * 128 ≡ behind ascii w n 0
-ascii-end w n = omega (arith, ascii-behind w n 0)
+pub ascii-end : (w : List ℕ) (n : ℕ) → n * 128 ≡ afterRows ascii w n 0
+ascii-end w n = omega (arith, ascii-after w n 0)
 
 -- A row that is appended, or has no room
 
-module _ (k : Kind) (w : List ℕ) (n : ℕ) (row : List ℕ) {end : ℕ} (b : end ≡ behind k w n 0) where
+module _ (k : Kind) (w : List ℕ) (n : ℕ) (row : List ℕ) {end : ℕ} (b : end ≡ afterRows k w n 0) where
   pub append-room : {r : Interned} → length w < end + length (standing k row) → said r ≡ no ROOM 0 → Interns r w w (append k w n row)
   unfolding append
   append-room h e =
-      let q : ltb (length w) (behind k w n 0 + length (standing k row)) ≡ true = lt-ltb (length w) (behind k w n 0 + length (standing k row)) (omega arith) in
-      rw q (record { says = e; leaves = refl })
+      let m : length w < afterRows k w n 0 + length (standing k row) = omega arith in
+      rw (lt-ltb _ _ m) (record { says = e; leaves = refl })
 
   pub append-put : {new : List ℕ} {r : ℕ} → end + length (standing k row) ≤ length w → Put (standing k row) end w r new →
       Interns (At n) w new (append k w n row)
   unfolding append
   append-put h p =
-      let q : ltb (length w) (behind k w n 0 + length (standing k row)) ≡ false = le-ltb (length w) (behind k w n 0 + length (standing k row)) (omega arith) in
-      rw (q, ← b) (record { says = refl; leaves = p .is })
+      let m : afterRows k w n 0 + length (standing k row) ≤ length w = omega arith in
+      rw (le-ltb _ _ m, ← b) (record { says = refl; leaves = p .is })
 
 -- An equal row is found, or none is
 
@@ -58,28 +57,28 @@ module _ (k : Kind) (w : List ℕ) (n : ℕ) (row : List ℕ) {i : ℕ} (e : i �
 -- The order of the refusals
 
 module _ (k : Kind) (w : List ℕ) (n : ℕ) (row : List ℕ) where
-  pub intern-outside : {r : Interned} → length w < behind k w n 0 → said r ≡ no NOT-TABLE 0 → Interns r w w (intern k w n row)
+  pub intern-outside : {r : Interned} → length w < afterRows k w n 0 → said r ≡ no NOT-TABLE 0 → Interns r w w (intern k w n row)
   unfolding intern
-  intern-outside h e = rw (lt-ltb (length w) (behind k w n 0) h) (record { says = e; leaves = refl })
+  intern-outside h e = rw (lt-ltb (length w) (afterRows k w n 0) h) (record { says = e; leaves = refl })
 
-  module _ (h : behind k w n 0 ≤ length w) where
+  module _ (h : afterRows k w n 0 ≤ length w) where
     pub intern-field : {r : Interned} → good k row ≡ false → said r ≡ no FIELD 0 → Interns r w w (intern k w n row)
     unfolding intern
-    intern-field g e = rw (le-ltb (length w) (behind k w n 0) h, g) (record { says = e; leaves = refl })
+    intern-field g e = rw (le-ltb (length w) (afterRows k w n 0) h, g) (record { says = e; leaves = refl })
 
     pub intern-many : {r : Interned} → good k row ≡ true → countable k row ≡ false → said r ≡ no ROOM 0 → Interns r w w (intern k w n row)
     unfolding intern
-    intern-many g m e = rw (le-ltb (length w) (behind k w n 0) h, g, m) (record { says = e; leaves = refl })
+    intern-many g m e = rw (le-ltb (length w) (afterRows k w n 0) h, g, m) (record { says = e; leaves = refl })
 
     pub intern-into : {r : Interned} {out : List ℕ} → good k row ≡ true → countable k row ≡ true → Interns r w out (findOrAppend k w n row) →
         Interns r w out (intern k w n row)
     unfolding intern
-    intern-into g m a = rw (le-ltb (length w) (behind k w n 0) h, g, m) a
+    intern-into g m a = rw (le-ltb (length w) (afterRows k w n 0) h, g, m) a
 
 -- Ascii rows, by the tests that are made
 
 module _ (w : List ℕ) (n : ℕ) where
-  pub ascii-within : n * 128 ≤ length w → behind ascii w n 0 ≤ length w
+  pub ascii-within : n * 128 ≤ length w → afterRows ascii w n 0 ≤ length w
   ascii-within h = omega (arith, ascii-end w n)
 
   module _ (row : List ℕ) where
@@ -108,7 +107,7 @@ pub ruleset answering-ascii = (needs, find-there, find-none, ascii-within, ascii
 -- Wide rows: the place behind them is known, or past the pool
 
 module _ (w : List ℕ) (n : ℕ) (row : List ℕ) where
-  module _ {end : ℕ} (b : end ≡ behind wide w n 0) where
+  module _ {end : ℕ} (b : end ≡ afterRows wide w n 0) where
     pub wide-room : {r : Interned} → end ≤ length w → length w - end ≤ length row → said r ≡ no ROOM 0 → Interns r w w (append wide w n row)
     wide-room h t e = append-room wide w n row b (omega arith) e
 
@@ -116,7 +115,7 @@ module _ (w : List ℕ) (n : ℕ) (row : List ℕ) where
         Interns (At n) w new (append wide w n row)
     wide-put {new} {x} {r} q h t p = append-put wide w n row b (omega arith) (subst (λ (m : ℕ). Put (m ∷ row) end w r new) q p)
 
-    pub wide-fits : end ≤ length w → behind wide w n 0 ≤ length w
+    pub wide-fits : end ≤ length w → afterRows wide w n 0 ≤ length w
     wide-fits h = omega arith
 
   module _ {x i : ℕ} (e : i ≡ firstEqual (x ∷ row) (rowsFrom wide w n 0)) (q : x ≡ length row / 3) where
@@ -129,12 +128,12 @@ module _ (w : List ℕ) (n : ℕ) (row : List ℕ) where
     pub wide-none : {r : Interned} {out : List ℕ} → n ≤ i → Interns r w out (append wide w n row) → Interns r w out (findOrAppend wide w n row)
     wide-none h a = find-none wide w n row counted h a
 
-  module _ {end : ℕ} (b : min (1 + length w) end ≡ min (1 + length w) (behind wide w n 0)) where
+  module _ {end : ℕ} (b : min (1 + length w) end ≡ min (1 + length w) (afterRows wide w n 0)) where
     pub wide-outside : {r : Interned} → length w < end → said r ≡ no NOT-TABLE 0 → Interns r w w (intern wide w n row)
     wide-outside h e = intern-outside wide w n row (omega arith) e
 
     module _ (h : end ≤ length w) where
-      pub wide-ends : end ≡ behind wide w n 0
+      pub wide-ends : end ≡ afterRows wide w n 0
       wide-ends = omega arith
 
       module _ {t : Bool} (g : t ≡ inThrees row) where

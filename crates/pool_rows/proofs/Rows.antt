@@ -17,7 +17,7 @@ use borrow.Author.Tests.{eq-eqb, ne-eqb, eqb-true, eqb-false, le-leb, lt-leb}
 use Rattle.refusal.specs.Lists.{sameList, firstEqual}
 use Rattle.buffer.specs.Over.{Put}
 use Rattle.buffer.proofs.Going.{Going, going-start, going-done, going-place, going-put, put-one, put-size-1}
-use Rattle.pool_rows.specs.Pools.{Kind, ascii, wide, sizeAt, rowsFrom, behind, inThrees}
+use Rattle.pool_rows.specs.Pools.{Kind, ascii, wide, sizeAt, rowsFrom, afterRows, inThrees}
 
 -- Comparing a row with n numbers of w from a place on: what is left at j
 
@@ -88,26 +88,26 @@ module _ (k : Kind) (w : List ℕ) (left at : ℕ) where
   unfolding rowsFrom
   rows-open h = let e : left ≡ suc (left - 1) = omega arith in ap (λ (n : ℕ). rowsFrom k w n at) e
 
-  behind-open : 0 < left → behind k w left at ≡ behind k w (left - 1) (at + sizeAt k w at)
-  unfolding behind
-  behind-open h = let e : left ≡ suc (left - 1) = omega arith in ap (λ (n : ℕ). behind k w n at) e
+  after-open : 0 < left → afterRows k w left at ≡ afterRows k w (left - 1) (at + sizeAt k w at)
+  unfolding afterRows
+  after-open h = let e : left ≡ suc (left - 1) = omega arith in ap (λ (n : ℕ). afterRows k w n at) e
 
-pub behind-≥ : (k : Kind) (w : List ℕ) (n at : ℕ) → at ≤ behind k w n at
-unfolding behind
-behind-≥ k w zero at = omega arith
-behind-≥ k w (suc n) at = omega (arith, behind-≥ k w n (at + sizeAt k w at))
+pub after-≥ : (k : Kind) (w : List ℕ) (n at : ℕ) → at ≤ afterRows k w n at
+unfolding afterRows
+after-≥ k w zero at = omega arith
+after-≥ k w (suc n) at = omega (arith, after-≥ k w n (at + sizeAt k w at))
 
-module _ (k : Kind) (w : List ℕ) (left at : ℕ) {e : ℕ} (b : behind k w left at ≤ e) where
+module _ (k : Kind) (w : List ℕ) (left at : ℕ) {e : ℕ} (b : afterRows k w left at ≤ e) where
   pub row-within : 0 < left → at + sizeAt k w at ≤ e
-  row-within h = omega (arith, behind-open k w left at h, behind-≥ k w (left - 1) (at + sizeAt k w at))
+  row-within h = omega (arith, after-open k w left at h, after-≥ k w (left - 1) (at + sizeAt k w at))
 
-  pub rows-within : {next : ℕ} → 0 < left → next ≡ at + sizeAt k w at → behind k w (left - 1) next ≤ e
-  rows-within h n = rw (n, ← behind-open k w left at h) b
+  pub rows-within : {next : ℕ} → 0 < left → next ≡ at + sizeAt k w at → afterRows k w (left - 1) next ≤ e
+  rows-within h n = rw (n, ← after-open k w left at h) b
 
 -- the loop's invariant: the first equal row stands as far behind as it does from here
 abbrev pub Finding : Kind → List ℕ → ℕ → List ℕ → ℕ → ℕ → ℕ → Type 0
 Finding k w rows row left at i =
-    (i + firstEqual row (rowsFrom k w left at) ≡ firstEqual row (rowsFrom k w rows 0)) × (behind k w left at ≤ length w) × (i + left ≤ rows)
+    (i + firstEqual row (rowsFrom k w left at) ≡ firstEqual row (rowsFrom k w rows 0)) × (afterRows k w left at ≤ length w) × (i + left ≤ rows)
 
 module _ (k : Kind) (w row : List ℕ) (left at i : ℕ) {all : ℕ} (g : i + firstEqual row (rowsFrom k w left at) ≡ all) where
   pub first-here : {t : Bool} → 0 < left → t ≡ sameList (take (sizeAt k w at) (drop at w)) row → t ≡ true → i ≡ all
@@ -133,14 +133,14 @@ module _ (k : Kind) (w row : List ℕ) (left at i : ℕ) {all : ℕ} (g : i + fi
 
 -- so the row that is looked at lies in the pool
 
-module _ (w : List ℕ) (left at : ℕ) (b : behind ascii w left at ≤ length w) (h : 0 < left) where
+module _ (w : List ℕ) (left at : ℕ) (b : afterRows ascii w left at ≤ length w) (h : 0 < left) where
   pub targets-within : at + 128 ≤ length w
   targets-within = row-within ascii w left at b h
 
   pub targets-fit : length w * 2 < 2 ^ 63 → Fits w64 (at + 128)
   targets-fit l = record { fits = omega (arith, targets-within) }
 
-module _ (w : List ℕ) (left at : ℕ) (b : behind wide w left at ≤ length w) (h : 0 < left) where
+module _ (w : List ℕ) (left at : ℕ) (b : afterRows wide w left at ≤ length w) (h : 0 < left) where
   pub count-within : at < length w
   count-within = omega (arith, row-within wide w left at b h)
 
@@ -154,18 +154,18 @@ pub ruleset finding = (needs, row-within, rows-within, targets-within, targets-f
 
 -- Where wide rows end, or that they lead outside
 
-module _ (w : List ℕ) (left at : ℕ) {all : ℕ} (g : min (1 + length w) (behind wide w left at) ≡ all) where
-  pub end-next : {next : ℕ} → 0 < left → next ≡ at + (1 + getD w at 0 * 3) → min (1 + length w) (behind wide w (left - 1) next) ≡ all
-  end-next h n = rw (n, ← behind-open wide w left at h) g
+module _ (w : List ℕ) (left at : ℕ) {all : ℕ} (g : min (1 + length w) (afterRows wide w left at) ≡ all) where
+  pub end-next : {next : ℕ} → 0 < left → next ≡ at + (1 + getD w at 0 * 3) → min (1 + length w) (afterRows wide w (left - 1) next) ≡ all
+  end-next h n = rw (n, ← after-open wide w left at h) g
 
   pub end-outside : 0 < left → length w ≤ at → min (1 + length w) (length w + 1) ≡ all
-  end-outside h l = omega (arith, behind-open wide w left at h, behind-≥ wide w (left - 1) (at + sizeAt wide w at))
+  end-outside h l = omega (arith, after-open wide w left at h, after-≥ wide w (left - 1) (at + sizeAt wide w at))
 
   pub end-done : left ≤ 0 → min (1 + length w) at ≡ all
-  unfolding behind
+  unfolding afterRows
   end-done h =
       let z : left ≡ 0 = omega arith in
-      let o : behind wide w left at ≡ at = rw z in
+      let o : afterRows wide w left at ≡ at = rw z in
       omega arith
 
 pub ruleset ending = (needs, end-next, end-outside, end-done)

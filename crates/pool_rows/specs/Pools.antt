@@ -34,9 +34,9 @@ rowsFrom k w zero at = []
 rowsFrom k w (suc n) at = take (sizeAt k w at) (drop at w) ∷ rowsFrom k w n (at + sizeAt k w at)
 
 -- the place behind them, which is past the end of a pool that they do not fit
-unfoldable pub behind : Kind → List ℕ → ℕ → ℕ → ℕ
-behind k w zero at = at
-behind k w (suc n) at = behind k w n (at + sizeAt k w at)
+unfoldable pub afterRows : Kind → List ℕ → ℕ → ℕ → ℕ
+afterRows k w zero at = at
+afterRows k w (suc n) at = afterRows k w n (at + sizeAt k w at)
 
 -- ranges of three numbers, whose third is a target
 unfoldable pub inThrees : List ℕ → Bool
@@ -62,7 +62,7 @@ pub data Outcome : Type 0 where
   refused : ℕ → Outcome
 
 unfoldable pub append : Kind → List ℕ → ℕ → List ℕ → Outcome
-append k w n row = pick (ltb (length w) (behind k w n 0 + length (standing k row))) (refused ROOM) (appended n (standing k row) (behind k w n 0))
+append k w n row = pick (ltb (length w) (afterRows k w n 0 + length (standing k row))) (refused ROOM) (appended n (standing k row) (afterRows k w n 0))
 
 -- the number of the first of the rows in the pool that is equal
 abbrev pub firstIn : Kind → List ℕ → ℕ → List ℕ → ℕ
@@ -75,7 +75,7 @@ findOrAppend k w n row = pick (ltb (firstIn k w n row) n) (found (firstIn k w n 
 -- row not in threes, or a target past 65535), ROOM."
 unfoldable pub intern : Kind → List ℕ → ℕ → List ℕ → Outcome
 intern k w n row =
-    pick (ltb (length w) (behind k w n 0)) (refused NOT-TABLE)
+    pick (ltb (length w) (afterRows k w n 0)) (refused NOT-TABLE)
     (pick (good k row) (pick (countable k row) (findOrAppend k w n row) (refused ROOM)) (refused FIELD))
 
 -- what the call answers: a row's number, or a refusal

@@ -5,7 +5,7 @@ ghost use mathlib.Core.List.{_∷_};
 ghost use lib.ListN.{length, take, drop};
 ghost use Rattle.refusal.specs.Lists.{sameList, firstEqual};
 ghost use Rattle.buffer.specs.Over.{Put};
-ghost use Rattle.pool_rows.specs.Pools.{wide, sizeAt, rowsFrom, behind, inThrees, append, findOrAppend, intern, Interns};
+ghost use Rattle.pool_rows.specs.Pools.{wide, sizeAt, rowsFrom, afterRows, inThrees, append, findOrAppend, intern, Interns};
 use pool_rows::Interned;
 use pool_rows::refuse;
 use refusal::FIELD;
@@ -23,7 +23,7 @@ fn row_end(at: usize, count: u32) -> usize
 
 // The place behind the rows; where they do not fit, some place past the pool's end.
 fn rows_end(pool: &[u32], rows: usize) -> usize
-    ensures { λ r. ⌜ min (1 + length (now (pool .entry))) r ≡ min (1 + length (now (pool .entry))) (behind wide (now (pool .entry)) rows 0) ⌝ }
+    ensures { λ r. ⌜ min (1 + length (now (pool .entry))) r ≡ min (1 + length (now (pool .entry))) (afterRows wide (now (pool .entry)) rows 0) ⌝ }
 {
     let mut left = rows;
     let mut at = 0;
@@ -66,7 +66,7 @@ fn same_at(pool: &[u32], at: usize, count: u32, row: &[u32]) -> bool
 
 // The number of the first equal row, or how many rows there are.
 fn first_equal(pool: &[u32], rows: usize, count: u32, row: &[u32]) -> usize
-    requires within { ⌜ behind wide (now pool) rows 0 ≤ length (now pool) ⌝ }
+    requires within { ⌜ afterRows wide (now pool) rows 0 ≤ length (now pool) ⌝ }
     requires size { ⌜ length (now row) ≡ count * 3 ⌝ }
     ensures { λ r. ⌜ r ≡ firstEqual (count ∷ now (row .entry)) (rowsFrom wide (now (pool .entry)) rows 0) ⌝ }
 {
@@ -125,7 +125,7 @@ fn put_row(count: u32, row: &[u32], pool: &mut [u32], at: usize) -> usize
 // Appends a row behind the others, which end at a place, if there is room for it.
 fn append_row(pool: &mut [u32], rows: usize, end: usize, count: u32, row: &[u32]) -> Interned
     requires within { ⌜ end ≤ length (now pool) ⌝ }
-    requires ends { ⌜ end ≡ behind wide (now pool) rows 0 ⌝ }
+    requires ends { ⌜ end ≡ afterRows wide (now pool) rows 0 ⌝ }
     requires counts { ⌜ count ≡ length (now row) / 3 ⌝ }
     ensures { λ r. ⌜ Interns r (now (pool .entry)) (now (pool .exit)) (append wide (now (pool .entry)) rows (now (row .entry))) ⌝ }
 {
@@ -139,7 +139,7 @@ fn append_row(pool: &mut [u32], rows: usize, end: usize, count: u32, row: &[u32]
 // Finds a good row in a pool that holds its rows, or appends it.
 fn find_or_append(pool: &mut [u32], rows: usize, end: usize, count: u32, row: &[u32]) -> Interned
     requires within { ⌜ end ≤ length (now pool) ⌝ }
-    requires ends { ⌜ end ≡ behind wide (now pool) rows 0 ⌝ }
+    requires ends { ⌜ end ≡ afterRows wide (now pool) rows 0 ⌝ }
     requires counts { ⌜ count ≡ length (now row) / 3 ⌝ }
     requires size { ⌜ length (now row) ≡ count * 3 ⌝ }
     ensures { λ r. ⌜ Interns r (now (pool .entry)) (now (pool .exit)) (findOrAppend wide (now (pool .entry)) rows (now (row .entry))) ⌝ }

@@ -14,7 +14,7 @@ use Rattle.replay_io.specs.Bytes.{PutWhole}
 use Rattle.replay_io.proofs.Putting.{numbers-many}
 use Rattle.room_decode.specs.declared.Decoded.{Decoded}
 use Rattle.room_decode.specs.Decode.{decodeOf, roomOf}
-use Rattle.program_io.specs.Bytes.{wordsOf, refused, readOf, roomRead}
+use Rattle.program_io.specs.Bytes.{wordsIn, refused, readOf, roomRead}
 
 -- what was put at the front of a buffer stands there
 front : {xs : List ℕ} {n : ℕ} {old new : List ℕ} → Put xs 0 old n new → length xs ≤ length old → take n new ≡ xs
@@ -24,8 +24,8 @@ front {xs} {n} {old} p h =
     rw (e, p .is, over-front xs old h) (take-append-seam xs (drop (length xs) old))
 
 -- a word has four bytes
-size : (bs : List ℕ) → length (wordsOf bs) ≡ length bs / 4
-unfolding wordsOf
+size : (bs : List ℕ) → length (wordsIn bs) ≡ length bs / 4
+unfolding wordsIn
 size bs = numbers-many 4 (length bs / 4) bs
 
 module _ (bs : List ℕ) (z : ℕ) where
@@ -47,8 +47,8 @@ module _ (bs : List ℕ) (z : ℕ) where
 
   -- the words that were put are decoded: all of them, since there is room
   module _ {n : ℕ} {old new : List ℕ} where
-    whole-words : PutWhole 4 bs old n new → length bs / 4 ≤ 8192 → length old ≡ 8192 → take n new ≡ wordsOf bs
-    unfolding wordsOf
+    whole-words : PutWhole 4 bs old n new → length bs / 4 ≤ 8192 → length old ≡ 8192 → take n new ≡ wordsIn bs
+    unfolding wordsIn
     whole-words p h k =
         let e : min (length bs / 4) (length old) ≡ length bs / 4 = omega arith in
         front (rw e at p) (omega (arith, numbers-many 4 (length bs / 4) bs))
@@ -56,12 +56,12 @@ module _ (bs : List ℕ) (z : ℕ) where
     pub all-whole : {r : Decoded} → PutWhole 4 bs old n new → r ≡ decodeOf (take n new) z → length bs / 4 ≤ 8192 → length old ≡ 8192 →
         length bs % 4 ≤ 0 → r ≡ readOf bs z
     unfolding readOf
-    all-whole p e h k l = let w : take n new ≡ wordsOf bs = whole-words p h k in e ∙ (rw (w, size bs, le-ltb _ _ h, le-ltb _ _ l))
+    all-whole p e h k l = let w : take n new ≡ wordsIn bs = whole-words p h k in e ∙ (rw (w, size bs, le-ltb _ _ h, le-ltb _ _ l))
 
     pub whole-room : {d : List ℕ} → PutWhole 4 bs old n new → d ≡ roomOf (take n new) z → length bs / 4 ≤ 8192 → length old ≡ 8192 →
         length bs % 4 ≤ 0 → d ≡ roomRead bs z
     unfolding roomRead
-    whole-room p e h k l = let w : take n new ≡ wordsOf bs = whole-words p h k in e ∙ (rw (w, size bs, le-ltb _ _ h, le-ltb _ _ l))
+    whole-room p e h k l = let w : take n new ≡ wordsIn bs = whole-words p h k in e ∙ (rw (w, size bs, le-ltb _ _ h, le-ltb _ _ l))
 
 -- what the reading of a table is left with
 pub ruleset judging = (needs, over-limit, limit-room, with-spare, spare-room, all-whole, whole-room)

@@ -13,8 +13,8 @@ use Rattle.buffer.specs.Over.{zeros}
 use Rattle.replay_io.specs.Bytes.{numbers}
 
 -- the whole words of bytes, the least byte first
-unfoldable pub wordsOf : List ℕ → List ℕ
-wordsOf bs = numbers 4 (length bs / 4) bs
+unfoldable pub wordsIn : List ℕ → List ℕ
+wordsIn bs = numbers 4 (length bs / 4) bs
 
 abbrev pub refused : ℕ → ℕ → Decoded
 refused n p = Refused (record { number = n; place = p })
@@ -22,13 +22,13 @@ refused n p = Refused (record { number = n; place = p })
 -- "1 to 3 spare bytes are SHORT at the whole words, after LIMIT and before decoding"
 unfoldable pub readOf : List ℕ → ℕ → Decoded
 readOf bs n =
-    pick (ltb 8192 (length (wordsOf bs))) (refused LIMIT 8192)
-    (pick (ltb 0 (length bs % 4)) (refused SHORT (length (wordsOf bs)))
-    (decodeOf (wordsOf bs) n))
+    pick (ltb 8192 (length (wordsIn bs))) (refused LIMIT 8192)
+    (pick (ltb 0 (length bs % 4)) (refused SHORT (length (wordsIn bs)))
+    (decodeOf (wordsIn bs) n))
 
 -- "Refused: all outputs zero."
 unfoldable pub roomRead : List ℕ → ℕ → List ℕ
 roomRead bs n =
-    pick (ltb 8192 (length (wordsOf bs))) (zeros n)
+    pick (ltb 8192 (length (wordsIn bs))) (zeros n)
     (pick (ltb 0 (length bs % 4)) (zeros n)
-    (roomOf (wordsOf bs) n))
+    (roomOf (wordsIn bs) n))

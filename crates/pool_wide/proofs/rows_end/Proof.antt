@@ -2,13 +2,13 @@
 use Prim.Native.Nat.{_+_, min}
 use mathlib.Core.Path.{_≡_}
 use lib.ListN.{length}
-use Rattle.pool_rows.specs.Pools.{wide, behind}
+use Rattle.pool_rows.specs.Pools.{wide, afterRows}
 use Rattle.pool_rows.proofs.Rows.{ending}
 use Rattle.pool_wide.proofs.rows_end.Statement.{statement}
 use Rattle.pool_wide.proofs.rows_end.Tie as tie
 
 abbrev Inv-loop : tie.InvT-loop
-Inv-loop pool rows left₀ at₀ left at = min (1 + length pool) (behind wide pool left at) ≡ min (1 + length pool) (behind wide pool rows 0)
+Inv-loop pool rows left₀ at₀ left at = min (1 + length pool) (afterRows wide pool left at) ≡ min (1 + length pool) (afterRows wide pool rows 0)
 
 abbrev μ-loop : tie.MeasureT-loop
 μ-loop pool rows left₀ at₀ left at = left
