@@ -1,5 +1,5 @@
 -- The laws of digits on a page, and of the rows of a state. Assumes nothing.
-use Prim.Native.Nat.{ℕ, zero, suc, _+_, _*_, _-_, _%_, _<_, _≤_}
+use Prim.Native.Nat.{ℕ, zero, suc, _+_, _*_, _-_, _%_, _^_, _<_, _≤_}
 use native.Mathlib.Nat.{not-suc-le-zero, le-of-suc-le-suc}
 use native.Mathlib.Omega.{arith}
 use mathlib.Core.Path.{_≡_, refl, _∙_}
@@ -11,6 +11,11 @@ use lib.ListN.{length, getD}
 use Rattle.refusal.specs.Said.{Said}
 use Rattle.refusal.specs.Fixed.{NONE, DEAD-STATE}
 use Rattle.refusal.specs.Lists.{pick}
+use Rattle.refusal.specs.Header.{RUNS-START, WIDE-START, ESCAPES-START}
+use Rattle.room_find.specs.declared.Found.{Found}
+use Rattle.room_find.specs.declared.Found.the-variants.{At}
+use Rattle.room_find.specs.Room.{listedAt}
+use Rattle.room_find.proofs.Records.{listed-first, ofstate}
 use Rattle.look_accepts.specs.Record.{recordOf}
 use Rattle.look_modes.specs.Start.{modeStart}
 use Rattle.look_targets.specs.Targets.{asciiTarget, eofTarget}
@@ -21,9 +26,7 @@ use Rattle.tableshow.specs.Joined.{joined}
 use Rattle.tableshow.specs.Names.{hexDigit, range, target}
 use Rattle.tableshow.specs.Forms.{formed}
 use Rattle.tableshow.specs.Rows.{gap, after, ending, item, orElse, targetOn, edge, lowAfter, itemsAfter, edgeAt, lowAt, itemsAt, asciiFrom}
-use Rattle.tableshow.specs.Rows.{asciiText, rangesFrom, rowText, listed, wideAt, wideRow, firstWith, wideWith, wideText, escapesAt, escapesText}
-use Rattle.tableshow.specs.Rows.{runAt}
-use Rattle.tableshow.specs.Texts.{escapes-label}
+use Rattle.tableshow.specs.Rows.{asciiText, rangesFrom, rowText, placeOf, wideRow, firstWith, wideWith, wideText, escapesText}
 use Rattle.tableshow.specs.Page.{part, recordLine, saidLine, acceptText, headText, runText, runLine, endTarget, endContinuation, startLine}
 use Rattle.tableshow.specs.Page.{modeText, tableText, reasonText, refusalText}
 use Rattle.tableshow.proofs.Filling.{is-no-accept, is-state, is-table, is-refused, is-ascii, is-wide, is-wide-as, is-escapes}
@@ -106,21 +109,11 @@ past [] at h = refl
 past (x ∷ w) zero h = absurd (not-suc-le-zero h)
 past (x ∷ w) (suc at) h = past w at (le-of-suc-le-suc h)
 
-module _ (w : List ℕ) (s : ℕ) {r a : ℕ} where
-  pub is-run-at : r ≡ listed w a 0 0 0 s → a ≡ getD w 0 0 → r ≡ runAt w s
-  is-run-at e i = e ∙ (rw i)
+-- a record that is found lies in the room
+pub place-low : (w : List ℕ) (k i : ℕ) {p : ℕ} {got : Found} → got ≡ listedAt w k i → got ≡ At p → length w * 4 < 2 ^ 63 → p < 2 ^ 62
+place-low w k i g e l = omega (arith, listed-first w k i g e)
 
-  pub is-wide-at : (b c : ℕ) → r ≡ listed w a b 0 0 s → a ≡ getD w 0 0 → b ≡ getD w c 0 → c ≡ getD w 3 0 → r ≡ wideAt w s
-  is-wide-at b c e i j k = e ∙ (rw (i, j, k))
-
-  pub is-wide-row : r ≡ getD w (a + s * 4 + 2) 0 → a ≡ getD w 2 0 → r ≡ wideRow w s
-  is-wide-row e i = e ∙ (rw i)
-
-  pub is-escapes-at : (b b' c c' f f' : ℕ) → r ≡ listed w a b c f s → a ≡ getD w 0 0 → b ≡ getD w b' 0 → b' ≡ getD w 3 0 →
-      c ≡ getD w c' 0 → c' ≡ getD w 5 0 → f ≡ getD w f' 0 → f' ≡ getD w 6 0 → r ≡ escapesAt w s
-  is-escapes-at b b' c c' f f' e i j k l m o q = e ∙ (rw (i, j, k, l, m, o, q))
-
-pub ruleset places = (needs, past, is-run-at, is-wide-at, is-wide-row, is-escapes-at)
+pub ruleset places = (ofstate, past, place-low)
 
 -- The loops
 
@@ -254,18 +247,15 @@ module _ {n : ℕ} {d : List ℕ} {r : ℕ} {new : List ℕ} where
         Shown (asciiText w s) n d q d₂
     ascii-put p q = joined-2 (rw is-ascii at p) q
 
-    pub wide-put : {at t row : ℕ} → Shown (wideWith w s at t) n d r new → at ≡ wideAt w row → t ≡ firstWith w row s 0 → row ≡ wideRow w s →
+    pub wide-put : {at t row : ℕ} → Shown (wideWith w s at t) n d r new → at ≡ placeOf w WIDE-START row → t ≡ firstWith w row s 0 → row ≡ wideRow w s →
         Shown (wideText w s) n d r new
     wide-put p a b c = rw (← c, ← b, ← a) p
 
-    pub escapes-put : {at : ℕ} → Shown (rowText escapes-label 1 w (at + 1)) n d r new → at ≡ escapesAt w s → Shown (escapesText w s) n d r new
-    escapes-put p a = rw (← a) p
+    pub escapes-put : {at : ℕ} → Shown (rowText (formed 540 0 0 0) 1 w (at + 1)) n d r new → at ≡ placeOf w ESCAPES-START s → Shown (escapesText w s) n d r new
+    escapes-put p a = rw (← a) (rw is-escapes at p)
 
-    pub run-put : {at : ℕ} → Shown (runLine w at) n d r new → at ≡ runAt w s → Shown (runLine w (runAt w s)) n d r new
+    pub run-put : {at : ℕ} → Shown (runLine w at) n d r new → at ≡ placeOf w RUNS-START s → Shown (runLine w (placeOf w RUNS-START s)) n d r new
     run-put p a = rw (← a) p
-
-  pub escapes-row : (w : List ℕ) (at : ℕ) → Shown (rowText (formed 540 0 0 0) 1 w at) n d r new → Shown (rowText escapes-label 1 w at) n d r new
-  escapes-row w at p = rw is-escapes at p
 
 -- a wide row, or the state that has the same; k is its length
 module _ (w : List ℕ) (s at t : ℕ) {n : ℕ} {d : List ℕ} where
@@ -288,7 +278,7 @@ module _ (label : List ℕ) (kind : ℕ) (w : List ℕ) (at k : ℕ) {n : ℕ} {
       (k ≡ 0 → ⊥) → Shown (rowText label kind w at) n d q d₂
   row-put p q e h = if-not-same-as (getD w at 0) 0 [] _ k e h (joined-2 p (rw e at q))
 
-pub ruleset rows = (ascii-put, wide-put, escapes-put, escapes-row, wide-row, wide-none, wide-shared, row-none, row-put)
+pub ruleset rows = (ascii-put, wide-put, escapes-put, wide-row, wide-none, wide-shared, row-none, row-put)
 
 pub ruleset parts =
     (shows, rows, said-put, start-put, end-put, continuation-put, run-line, item-put, refusal-put, table-put, accept-none, accept-put, head-put, run-put)

@@ -4,6 +4,7 @@ use mathlib.Core.List.{List, [], _∷_, _++_}
 use lib.ListN.{getD}
 use Rattle.refusal.specs.Said.{Said, ok, no}
 use Rattle.refusal.specs.Fixed.{NONE, DEAD-STATE}
+use Rattle.refusal.specs.Header.{RUNS-START}
 use Rattle.look_modes.specs.Start.{modeStart}
 use Rattle.look_targets.specs.Targets.{eofTarget}
 use Rattle.look_accepts.specs.Accept.{acceptOf}
@@ -12,7 +13,7 @@ use Rattle.look_continuations.specs.Continuation.{eofContinuation}
 use Rattle.tableshow.specs.Joined.{joined, ifLess, ifSame}
 use Rattle.program_io.specs.Decimal.{number}
 use Rattle.tableshow.specs.Names.{symbol, range, target}
-use Rattle.tableshow.specs.Rows.{orElse, runAt, asciiText, wideText, escapesText}
+use Rattle.tableshow.specs.Rows.{orElse, placeOf, asciiText, wideText, escapesText}
 use Rattle.tableshow.specs.Texts as t
 
 -- The accept of a state: its number, its rule, its flag and how many actions it has
@@ -79,7 +80,7 @@ restText w s =
 
 -- All of a state
 abbrev pub stateText : List ℕ → ℕ → List ℕ
-stateText w s = joined (headText w s ∷ runLine w (runAt w s) ∷ asciiText w s ∷ restText w s ∷ [])
+stateText w s = joined (headText w s ∷ runLine w (placeOf w RUNS-START s) ∷ asciiText w s ∷ restText w s ∷ [])
 
 -- A mode
 

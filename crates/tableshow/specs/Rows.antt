@@ -1,11 +1,13 @@
 -- The rows of a state on a page: items of a range and where it leads, three to a line. w is the room, s a state. Assumes nothing.
-use Prim.Native.Nat.{ℕ, zero, suc, _+_, _*_}
+use Prim.Native.Nat.{ℕ, zero, suc, _+_}
 use mathlib.Core.List.{List, [], _∷_, _++_}
 use lib.Dec.{ltb, eqb}
 use lib.ListN.{getD}
 use Rattle.refusal.specs.Fixed.{DEAD-STATE}
 use Rattle.refusal.specs.Said.{Said, ok, no}
 use Rattle.refusal.specs.Lists.{pick}
+use Rattle.refusal.specs.Header.{WIDE-START, ESCAPES-START}
+use Rattle.room_find.specs.Room.{listedAt, stateAt, follow}
 use Rattle.look_targets.specs.Targets.{asciiTarget}
 use Rattle.tableshow.specs.Joined.{joined, ifSame}
 use Rattle.program_io.specs.Decimal.{number}
@@ -76,26 +78,13 @@ rangesFrom kind w (suc n) at p = item p (getD w at 0) (getD w (at + 1) 0) kind (
 abbrev pub rowText : List ℕ → ℕ → List ℕ → ℕ → List ℕ
 rowText label kind w at = ifSame (getD w at 0) 0 [] (joined (label ∷ rangesFrom kind w (getD w at 0) (at + 1) 0 ∷ []))
 
--- Behind the words stand the places of the runs, the wide rows, the accepts and the escape rows: number i behind so many
-abbrev pub listed : List ℕ → ℕ → ℕ → ℕ → ℕ → ℕ → ℕ
-listed w words runs wides accepts i = getD w (9 + words + runs + wides + accepts + i) 0
-
--- how many records the section has whose place is number k of the room
-abbrev pub countOf : List ℕ → ℕ → ℕ
-countOf w k = getD w (getD w k 0) 0
-
-abbrev pub runAt : List ℕ → ℕ → ℕ
-runAt w s = listed w (getD w 0 0) 0 0 0 s
-
-abbrev pub wideAt : List ℕ → ℕ → ℕ
-wideAt w row = listed w (getD w 0 0) (countOf w 3) 0 0 row
-
-abbrev pub escapesAt : List ℕ → ℕ → ℕ
-escapesAt w s = listed w (getD w 0 0) (countOf w 3) (countOf w 5) (countOf w 6) s
+-- Where the lookups find record i of section k, whose records vary in length; 0 where they find none
+abbrev pub placeOf : List ℕ → ℕ → ℕ → ℕ
+placeOf w k i = follow (listedAt w k i) (λ p. p) 0 0
 
 -- the number of a state's wide row
 abbrev pub wideRow : List ℕ → ℕ → ℕ
-wideRow w s = getD w (getD w 2 0 + s * 4 + 2) 0
+wideRow w s = follow (stateAt w s) (λ p. getD w (p + 1) 0) 0 0
 
 -- the first state that has a wide row, of so many from t on; behind them, where none has
 unfoldable pub firstWith : List ℕ → ℕ → ℕ → ℕ → ℕ
@@ -110,8 +99,8 @@ abbrev pub wideWith : List ℕ → ℕ → ℕ → ℕ → List ℕ
 wideWith w s at t = ifSame t s (rowText wide-label 0 w at) (sharedText w at t)
 
 abbrev pub wideText : List ℕ → ℕ → List ℕ
-wideText w s = wideWith w s (wideAt w (wideRow w s)) (firstWith w (wideRow w s) s 0)
+wideText w s = wideWith w s (placeOf w WIDE-START (wideRow w s)) (firstWith w (wideRow w s) s 0)
 
 -- "escape rows: EOF continuation or NONE, length, then low, high, continuation"
 abbrev pub escapesText : List ℕ → ℕ → List ℕ
-escapesText w s = rowText escapes-label 1 w (escapesAt w s + 1)
+escapesText w s = rowText escapes-label 1 w (placeOf w ESCAPES-START s + 1)

@@ -1,7 +1,8 @@
 // The parts of a page: the head, a mode, a state, a refusal. A function `.._form` chooses among the forms of a line.
 ghost use mathlib.Core.Path.{_≡_};
-ghost use Prim.Native.Nat.{ℕ};
+ghost use Prim.Native.Nat.{ℕ, _^_, _<_};
 ghost use Rattle.refusal.specs.Fixed.{NONE as none, DEAD-STATE};
+ghost use Rattle.refusal.specs.Header.{RUNS-START};
 ghost use Rattle.refusal.specs.Lists.{pick};
 ghost use Rattle.look_accepts.specs.Record as recorded;
 ghost use Rattle.look_continuations.specs.Continuation as continued;
@@ -9,21 +10,22 @@ ghost use Rattle.look_modes.specs.Start as started;
 ghost use Rattle.look_targets.specs.Targets.{eofTarget};
 ghost use Rattle.program_io.specs.Shown.{Shown};
 ghost use Rattle.tableshow.specs.Forms.{formed};
-ghost use Rattle.tableshow.specs.Rows.{orElse, runAt};
+ghost use Rattle.tableshow.specs.Rows.{orElse, placeOf};
 ghost use Rattle.tableshow.specs.Page.{part, recordLine, saidLine, acceptText, headText, untilText, rangesLine, runText, runLine, endTarget};
 ghost use Rattle.tableshow.specs.Page.{endContinuation, restText, stateText, startLine, modeText, tableText, ruleText, reasonText, refusalText};
 use crate::forms;
 use crate::rows::DEAD;
 use crate::rows::ESCAPE;
 use crate::rows::number_or;
+use crate::rows::place_of;
 use crate::rows::put_ascii;
 use crate::rows::put_escapes;
 use crate::rows::put_wide;
-use crate::rows::run_at;
 use crate::text::put_form;
 use look_accepts::AcceptRecord;
 use look_modes::Start;
 use refusal::NONE;
+use refusal::RUNS_START;
 use rule_words::word_at;
 
 fn record_form(flag: u32, actions: u32) -> usize
@@ -167,12 +169,13 @@ fn run_form(run: u32) -> usize
 }
 
 // The run whose words stand at a place.
-fn put_run_at(room: &[u32], at: u32, page: &mut [u8], n: usize) -> usize
+fn put_run_at(room: &[u32], at: usize, page: &mut [u8], n: usize) -> usize
+    requires { ⌜ at < 2 ^ 62 ⌝ }
     ensures { λ r. ⌜ Shown (runLine (now (room .entry)) at) n (now (page .entry)) r (now (page .exit)) ⌝ }
 {
-    let run = word_at(room, at as usize);
-    let first = word_at(room, (at as usize) + 1);
-    let second = word_at(room, (at as usize) + 2);
+    let run = word_at(room, at);
+    let first = word_at(room, at + 1);
+    let second = word_at(room, at + 2);
     put_form(
         run_form(run),
         run as u64,
@@ -184,9 +187,9 @@ fn put_run_at(room: &[u32], at: u32, page: &mut [u8], n: usize) -> usize
 }
 
 fn put_run_of(room: &[u32], state: u16, page: &mut [u8], n: usize) -> usize
-    ensures { λ r. ⌜ Shown (runLine (now (room .entry)) (runAt (now (room .entry)) state)) n (now (page .entry)) r (now (page .exit)) ⌝ }
+    ensures { λ r. ⌜ Shown (runLine (now (room .entry)) (placeOf (now (room .entry)) RUNS-START state)) n (now (page .entry)) r (now (page .exit)) ⌝ }
 {
-    let at = run_at(room, state);
+    let at = place_of(room, RUNS_START, state as u32);
     put_run_at(room, at, page, n)
 }
 

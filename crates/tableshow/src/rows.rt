@@ -1,21 +1,22 @@
 // The rows of a state on a page. The room may be of any length and hold any numbers: a number that is not there reads as 0.
 ghost use mathlib.Core.Path.{_≡_};
 ghost use mathlib.Core.List.{[], _∷_};
-ghost use Prim.Native.Nat.{ℕ, _+_, _*_, _^_, _<_};
-ghost use lib.ListN.{getD};
+ghost use Prim.Native.Nat.{ℕ, _+_, _^_, _<_, _≤_};
 ghost use Rattle.room_find.specs.Answer.{said};
 ghost use Rattle.program_io.specs.Shown.{Shown};
 ghost use Rattle.tableshow.specs.Joined.{joined};
 ghost use Rattle.tableshow.specs.Names.{range, target};
-ghost use Rattle.tableshow.specs.Texts.{escapes-label};
 ghost use Rattle.tableshow.specs.Forms.{formed};
 ghost use Rattle.tableshow.specs.Rows.{gap, after, ending, item, orElse, targetOn, edge, lowAfter, itemsAfter, asciiFrom, asciiText, rangesFrom};
-ghost use Rattle.tableshow.specs.Rows.{rowText, listed, runAt, wideAt, escapesAt, wideRow, firstWith, wideWith, wideText, escapesText};
+ghost use Rattle.tableshow.specs.Rows.{rowText, placeOf, wideRow, firstWith, wideWith, wideText, escapesText};
 use crate::forms;
 use crate::text::put_form;
 use refusal::DEAD_STATE;
 use refusal::ESCAPE_STATE;
+use refusal::ESCAPES_START;
+use refusal::WIDE_START;
 use room_find::Answer;
+use room_find::Found;
 use rule_words::word_at;
 
 // What a target's number may be beside a state's.
@@ -169,7 +170,7 @@ pub(crate) fn put_ascii(room: &[u32], state: u16, page: &mut [u8], n: usize) -> 
 
 // So many ranges behind the number at `at`.
 fn put_ranges(kind: u32, room: &[u32], count: u32, at: usize, page: &mut [u8], n: usize) -> usize
-    requires { ⌜ at < 2 ^ 40 ⌝ }
+    requires { ⌜ at ≤ 2 ^ 62 ⌝ }
     ensures { λ r. ⌜ Shown (rangesFrom kind (now (room .entry)) count (at + 1) 0) n (now (page .entry)) r (now (page .exit)) ⌝ }
 {
     let mut left = count;
@@ -190,7 +191,7 @@ fn put_ranges(kind: u32, room: &[u32], count: u32, at: usize, page: &mut [u8], n
 
 // The row whose length stands at a place.
 fn put_row(label: usize, kind: u32, room: &[u32], at: usize, page: &mut [u8], n: usize) -> usize
-    requires { ⌜ at < 2 ^ 40 ⌝ }
+    requires { ⌜ at ≤ 2 ^ 62 ⌝ }
     ensures { λ r. ⌜ Shown (rowText (formed label 0 0 0) kind (now (room .entry)) at) n (now (page .entry)) r (now (page .exit)) ⌝ }
 {
     let count = word_at(room, at);
@@ -201,54 +202,26 @@ fn put_row(label: usize, kind: u32, room: &[u32], at: usize, page: &mut [u8], n:
     put_ranges(kind, room, count, at, page, m)
 }
 
-// Number `i` of the places behind the words and behind so many places.
-fn listed(room: &[u32], words: u32, runs: u32, wides: u32, accepts: u32, i: u32) -> u32
-    ensures { λ r. ⌜ r ≡ listed (now (room .entry)) words runs wides accepts i ⌝ }
+// Where the lookups find record `i` of section `k`; 0 where they find none.
+pub(crate) fn place_of(room: &[u32], k: usize, i: u32) -> usize
+    ensures { λ r. ⌜ (r ≡ placeOf (now (room .entry)) k i) × (r < 2 ^ 62) ⌝ }
 {
-    let before = 9 + (words as usize) + (runs as usize) + (wides as usize) + (accepts as usize);
-    word_at(room, before + (i as usize))
-}
-
-fn count_at(room: &[u32], at: u32) -> u32
-    ensures { λ r. ⌜ r ≡ getD (now (room .entry)) at 0 ⌝ }
-{
-    word_at(room, at as usize)
-}
-
-// Where a run stands, a wide row, and a state's escapes.
-pub(crate) fn run_at(room: &[u32], state: u16) -> u32
-    ensures { λ r. ⌜ r ≡ runAt (now (room .entry)) state ⌝ }
-{
-    listed(room, word_at(room, 0), 0, 0, 0, state as u32)
-}
-
-fn wide_at(room: &[u32], row: u32) -> u32
-    ensures { λ r. ⌜ r ≡ wideAt (now (room .entry)) row ⌝ }
-{
-    let runs = count_at(room, word_at(room, 3));
-    listed(room, word_at(room, 0), runs, 0, 0, row)
-}
-
-fn escapes_at(room: &[u32], state: u16) -> u32
-    ensures { λ r. ⌜ r ≡ escapesAt (now (room .entry)) state ⌝ }
-{
-    let runs = count_at(room, word_at(room, 3));
-    let wides = count_at(room, word_at(room, 5));
-    let accepts = count_at(room, word_at(room, 6));
-    listed(room, word_at(room, 0), runs, wides, accepts, state as u32)
-}
-
-fn wide_row_from(room: &[u32], states: u32, state: u16) -> u32
-    ensures { λ r. ⌜ r ≡ getD (now (room .entry)) (states + state * 4 + 2) 0 ⌝ }
-{
-    word_at(room, (states as usize) + (state as usize) * 4 + 2)
+    match room_find::find_listed(room, k, i) {
+        Found::At(p) => p,
+        Found::Absent => 0,
+        Found::Outside => 0,
+    }
 }
 
 // The number of a state's wide row.
 fn wide_row(room: &[u32], state: u16) -> u32
     ensures { λ r. ⌜ r ≡ wideRow (now (room .entry)) state ⌝ }
 {
-    wide_row_from(room, word_at(room, 2), state)
+    match room_find::find_state(room, state) {
+        Found::At(p) => room[p + 1],
+        Found::Absent => 0,
+        Found::Outside => 0,
+    }
 }
 
 // The first state that has a wide row, of those before `state`; or that one.
@@ -267,13 +240,14 @@ fn first_with(room: &[u32], row: u32, state: u16) -> u16
     t
 }
 
-fn put_wide_at(room: &[u32], state: u16, at: u32, first: u16, page: &mut [u8], n: usize) -> usize
+fn put_wide_at(room: &[u32], state: u16, at: usize, first: u16, page: &mut [u8], n: usize) -> usize
+    requires { ⌜ at < 2 ^ 62 ⌝ }
     ensures { λ r. ⌜ Shown (wideWith (now (room .entry)) state at first) n (now (page .entry)) r (now (page .exit)) ⌝ }
 {
     if first == state {
-        return put_row(forms::WIDE, 0, room, at as usize, page, n);
+        return put_row(forms::WIDE, 0, room, at, page, n);
     }
-    if count_at(room, at) == 0 {
+    if word_at(room, at) == 0 {
         return n;
     }
     put_form(forms::WIDE_AS, first as u64, 0, 0, page, n)
@@ -285,20 +259,14 @@ pub(crate) fn put_wide(room: &[u32], state: u16, page: &mut [u8], n: usize) -> u
 {
     let row = wide_row(room, state);
     let first = first_with(room, row, state);
-    let at = wide_at(room, row);
+    let at = place_of(room, WIDE_START, row);
     put_wide_at(room, state, at, first, page, n)
-}
-
-fn put_escapes_at(room: &[u32], at: u32, page: &mut [u8], n: usize) -> usize
-    ensures { λ r. ⌜ Shown (rowText escapes-label 1 (now (room .entry)) (at + 1)) n (now (page .entry)) r (now (page .exit)) ⌝ }
-{
-    put_row(forms::ESCAPES, 1, room, (at as usize) + 1, page, n)
 }
 
 // The escape row of a state.
 pub(crate) fn put_escapes(room: &[u32], state: u16, page: &mut [u8], n: usize) -> usize
     ensures { λ r. ⌜ Shown (escapesText (now (room .entry)) state) n (now (page .entry)) r (now (page .exit)) ⌝ }
 {
-    let at = escapes_at(room, state);
-    put_escapes_at(room, at, page, n)
+    let at = place_of(room, ESCAPES_START, state as u32);
+    put_row(forms::ESCAPES, 1, room, at + 1, page, n)
 }

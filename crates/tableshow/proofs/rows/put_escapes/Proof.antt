@@ -8,6 +8,7 @@ put-escapes-spec =
     tie.close
     (tie.spec
     (λ c κs. search parts)
+    (λ c. search parts)
     (λ c κs. search parts)
     (λ c. search parts)
     (λ c. search parts))

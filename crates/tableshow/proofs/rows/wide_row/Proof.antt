@@ -1,4 +1,4 @@
--- The number is read at the place that the definition names.
+-- The number is read where the state is found.
 use Rattle.tableshow.proofs.Parts.{places}
 use Rattle.tableshow.proofs.rows.wide_row.Statement.{statement}
 use Rattle.tableshow.proofs.rows.wide_row.Tie as tie
@@ -8,5 +8,12 @@ wide-row-spec =
     tie.close
     (tie.spec
     (λ c κs. search places)
-    (λ c κs. search places)
+    (λ c. search places)
+    (λ c. search places)
+    (λ c. search places)
+    (λ c. search places)
+    (λ c. search places)
+    (λ c. search places)
+    (λ c. search places)
+    (λ c. search places)
     (λ c. search places))
