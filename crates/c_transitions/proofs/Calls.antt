@@ -8,7 +8,7 @@ use Rattle.refusal.specs.Said.{Said}
 use Rattle.list_transitions.specs.declared.Transitions.{Transitions}
 use Rattle.list_transitions.specs.declared.Transitions.the-variants.{Read, Refused}
 use Rattle.list_transitions.specs.Read.{Parsed, said, counted}
-use Rattle.list_intervals.specs.Ends.{Writes, endsIn}
+use Rattle.list_transitions.specs.Ends.{Writes, endsIn}
 use Rattle.c_transitions.specs.declared.CTransitions.{CTransitions}
 use Rattle.c_transitions.specs.Answers.{transitionsInC}
 

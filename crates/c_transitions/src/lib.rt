@@ -3,7 +3,7 @@
 ghost use mathlib.Core.Path.{_≡_};
 ghost use lib.ListN.{length};
 ghost use Rattle.list_transitions.specs.Read as reading;
-ghost use Rattle.list_intervals.specs.Ends as ending;
+ghost use Rattle.list_transitions.specs.Ends as ending;
 ghost use Rattle.c_transitions.specs.Answers.{transitionsInC};
 use list_transitions::Transitions;
 
@@ -49,5 +49,5 @@ pub extern "C" fn lexer_dfa_read_intervals(list: &[u8], out: &mut [u32]) -> CTra
     ensures { λ r. ⌜ (r ≡ transitionsInC (reading.counted (ending.parseInto (length (now (out .entry))) (now (list .entry)))))
         × (now (out .exit) ≡ ending.endsIn (length (now (out .entry))) (ending.parseInto (length (now (out .entry))) (now (list .entry)))) ⌝ }
 {
-    transitions_in_c(list_intervals::read_intervals(list, out))
+    transitions_in_c(list_transitions::read_intervals(list, out))
 }

@@ -2,12 +2,12 @@
 // What the calls promise together, the demands, the ply sheet's examples and uniqueness, stands in specs/ and proofs/.
 pub use buffer::Written;
 pub use list_distinct::distinct_masks;
-pub use list_intervals::read_intervals;
 pub use list_masks::Masks;
 pub use list_masks::segment_mask_matrix;
 pub use list_segments::Segments;
 pub use list_segments::char_segments;
 pub use list_transitions::Transitions;
+pub use list_transitions::read_intervals;
 pub use list_transitions::read_transitions;
 pub use look_accepts::AcceptRecord;
 pub use look_accepts::accept;

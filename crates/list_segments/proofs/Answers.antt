@@ -20,8 +20,8 @@ use Rattle.list_transitions.specs.Transition.{Transition}
 use Rattle.list_transitions.specs.Intervals.{intervals, allIntervals, total, ends, endsAll}
 use Rattle.list_transitions.specs.Read.{Parsed, parsed, refused, parse, isParsed, accepted}
 use Rattle.list_transitions.specs.Read as list
-use Rattle.list_intervals.specs.Ends.{parseInto, endsIn}
-use Rattle.list_intervals.specs.Ends as into
+use Rattle.list_transitions.specs.Ends.{parseInto, endsIn}
+use Rattle.list_transitions.specs.Ends as into
 use Rattle.list_transitions.proofs.Accepted.{length-ends, most-ends}
 use Rattle.list_segments.specs.declared.Segments.{Segments}
 use Rattle.list_segments.specs.declared.Segments.the-variants.{Count, Refused}

@@ -4,3 +4,5 @@ pub mod Tags
 pub mod Records
 pub mod Accepted
 pub mod Holds
+pub mod Puts
+pub mod Gathers

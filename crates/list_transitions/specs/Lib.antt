@@ -3,3 +3,4 @@ pub mod Intervals
 pub mod Bytes
 pub mod Read
 pub mod Walk
+pub mod Ends

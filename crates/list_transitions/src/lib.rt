@@ -1,5 +1,8 @@
-// Lists of transitions: bytes are read record by record, or refused, and the intervals of each are counted. A list may be of any length and
-// hold any bytes.
+// Lists of transitions: bytes are read record by record, or refused, and the intervals of each are counted, or written into a buffer. A list may be of
+// any length and hold any bytes.
+mod intervals;
+
+pub use intervals::read_intervals;
 ghost use mathlib.Core.Path.{_≡_};
 ghost use mathlib.Core.List.{[]};
 ghost use mathlib.Core.Bool.{true};
@@ -19,9 +22,9 @@ use refusal::Refusal;
 use refusal::SHORT;
 
 // The key of the point 0, and the key behind the last point.
-const ORIGIN: u64 = 2147483648;
+pub(crate) const ORIGIN: u64 = 2147483648;
 
-const BEYOND: u64 = 2148597760;
+pub(crate) const BEYOND: u64 = 2148597760;
 
 // How many transitions and intervals a list has, or why it is none.
 pub enum Transitions {
@@ -41,7 +44,7 @@ fn wide(x: u8) -> u64
     x as u64
 }
 
-fn size_at(list: &[u8], p: usize) -> usize
+pub(crate) fn size_at(list: &[u8], p: usize) -> usize
     requires { ⌜ p + 2 ≤ length (now list) ⌝ }
     ensures { λ r. ⌜ (r ≡ sizeAt (now (list .entry)) p) × (r < 65536) ⌝ }
 {
@@ -51,7 +54,7 @@ fn size_at(list: &[u8], p: usize) -> usize
 }
 
 // The key of the number whose four bytes start at p.
-fn number_at(list: &[u8], p: usize) -> u64
+pub(crate) fn number_at(list: &[u8], p: usize) -> u64
     requires { ⌜ p + 4 ≤ length (now list) ⌝ }
     ensures { λ r. ⌜ (r ≡ numberAt (now (list .entry)) p) × (r < 4294967296) ⌝ }
 {
@@ -142,7 +145,7 @@ fn is_live(a: u64, b: u64) -> usize
 }
 
 // The first key that is left of a not-set, behind the pair that ends with `high`.
-fn next_after(next: u64, high: u64) -> u64
+pub(crate) fn next_after(next: u64, high: u64) -> u64
     requires { ⌜ (next ≤ 4294967296) × (high < 4294967296) ⌝ }
     ensures { λ r. ⌜ (r ≡ max next (suc high)) × (r ≤ 4294967296) ⌝ }
 {

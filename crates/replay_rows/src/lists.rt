@@ -17,7 +17,7 @@ fn same(first: usize, second: usize, sums: u64, recorded: &[u8]) -> bool {
 
 fn same_intervals(list: &[u8], recorded: &[u8]) -> bool {
     let mut out = [1u32; 2048];
-    let answer = list_intervals::read_intervals(list, &mut out);
+    let answer = list_transitions::read_intervals(list, &mut out);
     let sums = check::of_words(check::NONE, &out).sums;
     match answer {
         Transitions::Read { count, intervals } => same(count, intervals, sums, recorded),

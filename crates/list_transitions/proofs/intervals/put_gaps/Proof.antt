@@ -3,12 +3,12 @@ use Prim.Native.Nat.{_+_, _*_, _≤_}
 use borrow.Author.Needs.{needs}
 use lib.ListN.{length}
 use Rattle.buffer.proofs.Going.{Going}
 use Rattle.list_transitions.specs.Transition.{origin}
 use Rattle.list_transitions.specs.Intervals.{gaps, ends}
 use Rattle.list_transitions.specs.Bytes.{pairsAt}
-use Rattle.list_intervals.proofs.Puts.{putting-gaps}
-use Rattle.list_intervals.proofs.put_gaps.Statement.{statement}
-use Rattle.list_intervals.proofs.put_gaps.Tie as tie
+use Rattle.list_transitions.proofs.Puts.{putting-gaps}
+use Rattle.list_transitions.proofs.intervals.put_gaps.Statement.{statement}
+use Rattle.list_transitions.proofs.intervals.put_gaps.Tie as tie
 
 abbrev Inv-loop : tie.InvT-loop
 Inv-loop list p count out₀ n next₀ here₀ left₀ m₀ out next here left m =

@@ -13,14 +13,14 @@ use Rattle.refusal.specs.Said.{ROOM}
 use Rattle.buffer.specs.Over.{lay, Put, zeros, padded}
 use Rattle.buffer.proofs.Overs.{lay-zeros}
 use Rattle.buffer.proofs.Going.{Going, going-start, going-done, going-room, going-turn}
 use Rattle.list_transitions.specs.Intervals.{intervals, ends, endsAll}
 use Rattle.list_transitions.specs.Bytes.{sizeAt, shapeOf, transOf}
 use Rattle.list_transitions.specs.Read.{said, Parsed, parsed, refused, parseFrom, parse, isParsed, accepted, counted}
 use Rattle.list_transitions.specs.Walk.{transAt, nextAt}
-use Rattle.list_intervals.specs.Ends.{parseInto, endsIn, Writes}
+use Rattle.list_transitions.specs.Ends.{parseInto, endsIn, Writes}
 use Rattle.list_transitions.specs.declared.Transitions.{Transitions}
 use Rattle.list_transitions.specs.declared.Transitions.the-variants.{Read, Refused}
 use Rattle.list_transitions.proofs.Accepted.{Turn, turn, ended, most-ends}
 
 -- The loop: the records from `at` on are accepted, and their ends are still to be written
 

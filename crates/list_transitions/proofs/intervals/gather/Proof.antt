@@ -1,9 +1,9 @@
 -- By the law of every loop that writes. The measure is how many bytes are left.
 use Prim.Native.Nat.{_-_}
 use lib.ListN.{length}
-use Rattle.list_intervals.proofs.Gathers.{Gather, gathering}
-use Rattle.list_intervals.proofs.gather.Statement.{statement}
-use Rattle.list_intervals.proofs.gather.Tie as tie
+use Rattle.list_transitions.proofs.Gathers.{Gather, gathering}
+use Rattle.list_transitions.proofs.intervals.gather.Statement.{statement}
+use Rattle.list_transitions.proofs.intervals.gather.Tie as tie
 
 abbrev Inv-loop : tie.InvT-loop
 Inv-loop list out₀ at₀ n₀ out at n = Gather list out₀ at n out

@@ -3,11 +3,11 @@ use Prim.Native.Nat.{_+_, _*_, _≤_}
 use borrow.Author.Needs.{needs}
 use lib.ListN.{length}
 use Rattle.buffer.proofs.Going.{Going}
 use Rattle.list_transitions.specs.Intervals.{clips, ends}
 use Rattle.list_transitions.specs.Bytes.{pairsAt}
-use Rattle.list_intervals.proofs.Puts.{putting-clips}
-use Rattle.list_intervals.proofs.put_clips.Statement.{statement}
-use Rattle.list_intervals.proofs.put_clips.Tie as tie
+use Rattle.list_transitions.proofs.Puts.{putting-clips}
+use Rattle.list_transitions.proofs.intervals.put_clips.Statement.{statement}
+use Rattle.list_transitions.proofs.intervals.put_clips.Tie as tie
 
 abbrev Inv-loop : tie.InvT-loop
 Inv-loop list p count out₀ n here₀ left₀ m₀ out here left m =

@@ -1,8 +1,8 @@
 -- A record by its tag, each with the laws of its own.
 use borrow.Author.Needs.{needs}
-use Rattle.list_intervals.proofs.Tags.{put-atom, put-range, put-set, put-not-set, put-wildcard}
-use Rattle.list_intervals.proofs.put_ends.Statement.{statement}
-use Rattle.list_intervals.proofs.put_ends.Tie as tie
+use Rattle.list_transitions.proofs.Puts.{put-atom, put-range, put-set, put-not-set, put-wildcard}
+use Rattle.list_transitions.proofs.intervals.put_ends.Statement.{statement}
+use Rattle.list_transitions.proofs.intervals.put_ends.Tie as tie
 
 pub put-ends-spec : {M : Type 1} → statement M
 put-ends-spec =

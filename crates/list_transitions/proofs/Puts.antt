@@ -11,10 +11,11 @@ use lib.Dec.{ltb}
 use Rattle.refusal.specs.Lists.{pick}
 use Rattle.buffer.specs.Over.{Put}
 use Rattle.buffer.proofs.Going.{Going, going-start, going-done, going-room, going-turn, put-none, put-pair}
 use Rattle.list_transitions.specs.Transition.{origin, points, beyond}
-use Rattle.list_transitions.specs.Intervals.{Span, clip, clipped, clips, gaps, ends}
-use Rattle.list_transitions.specs.Bytes.{numberAt, pairsAt}
+use Rattle.list_transitions.specs.Intervals.{Span, clip, clipped, clips, gaps, intervals, ends}
+use Rattle.list_transitions.specs.Bytes.{numberAt, pairsAt, transOf}
 use Rattle.list_transitions.proofs.Pairs.{clip-none, clip-one, pairs-turn, pairs-done}
+use Rattle.list_transitions.proofs.Tags.{value-1, value-2, value-high, intervals-1, intervals-2, intervals-3, intervals-4, intervals-5}
 
 -- One interval, or none: x and y are its ends, cut to the points
 
@@ -105,3 +106,24 @@ module _ (w : List ℕ) (left here : ℕ) (n : left ≤ 0) (xs : List ℕ) (k : 
 pub ruleset putting-clips = (needs, going-start, clips-room, clips-turn, clips-done)
 
 pub ruleset putting-gaps = (needs, going-start, gaps-room, gaps-turn, gaps-left, gaps-done)
+
+-- A record by its tag: there is room for the ends of its intervals, and they are written
+
+module _ (w : List ℕ) (tag size p n : ℕ) (d : List ℕ) {ss : List Span} where
+  pub tag-room : n + length (ends (intervals (transOf w tag size p))) ≤ length d → intervals (transOf w tag size p) ≡ ss →
+      n + length (ends ss) ≤ length d
+  tag-room g e = rw e at g
+
+  pub tag-put : {r : ℕ} {new : List ℕ} → Put (ends ss) n d r new → intervals (transOf w tag size p) ≡ ss →
+      Put (ends (intervals (transOf w tag size p))) n d r new
+  tag-put g e = rw e g
+
+pub ruleset put-atom = (needs, value-1, intervals-1, tag-room, tag-put)
+
+pub ruleset put-range = (needs, value-2, value-high, intervals-2, tag-room, tag-put)
+
+pub ruleset put-set = (needs, intervals-3, tag-room, tag-put)
+
+pub ruleset put-not-set = (needs, intervals-4, tag-room, tag-put)
+
+pub ruleset put-wildcard = (needs, intervals-5, tag-room, tag-put)

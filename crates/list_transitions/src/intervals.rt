@@ -1,66 +1,30 @@
-// The intervals of a list of transitions: both ends of each are written into a lent buffer. A list may be of any length and hold any bytes.
-// `transitions` judges it first, so that the records of an accepted list are walked here without a test. It has its own functions for
-// the bytes of a number and of a length: they ask their caller that the bytes are there, and no public function asks anything.
+// The intervals of a list of transitions: both ends of each are written into a lent buffer. `read_transitions` judges the list first, so that the
+// records of an accepted one are walked here without a test.
 ghost use mathlib.Core.Path.{_≡_};
 ghost use mathlib.Core.List.{[]};
 ghost use mathlib.Core.Bool.{true};
-ghost use Prim.Native.Nat.{suc, _+_, _*_, _-_, _≤_, _<_, max, min};
+ghost use Prim.Native.Nat.{_+_, _*_, _-_, _≤_, min};
 ghost use lib.ListN.{length};
 ghost use Rattle.buffer.specs.Over.{Put};
 ghost use Rattle.list_transitions.specs.Transition.{origin};
 ghost use Rattle.list_transitions.specs.Intervals.{clip, clips, gaps, intervals, ends, endsAll};
-ghost use Rattle.list_transitions.specs.Bytes.{numberAt, sizeAt, pairsAt, shapeOf, transOf};
+ghost use Rattle.list_transitions.specs.Bytes.{pairsAt, shapeOf, transOf};
 ghost use Rattle.list_transitions.specs.Read.{parse, isParsed, accepted};
-ghost use Rattle.list_intervals.specs.Ends.{parseInto, Writes};
-use list_transitions::Transitions;
+ghost use Rattle.list_transitions.specs.Ends.{parseInto, Writes};
+use crate::BEYOND;
+use crate::ORIGIN;
+use crate::Transitions;
+use crate::next_after;
+use crate::number_at;
+use crate::size_at;
 use refusal::ROOM;
 use refusal::Refusal;
 
-// The key of the point 0, the key behind the last point, and how many points there are.
-const ORIGIN: u64 = 2147483648;
-
-const BEYOND: u64 = 2148597760;
-
+// How many points there are.
 const POINTS: u32 = 1114112;
 
 // Both ends of the most intervals that a list may have.
 const ENDS: usize = 2048;
-
-fn wide(x: u8) -> u64
-    ensures { λ r. ⌜ (r ≡ x) × (r < 256) ⌝ }
-{
-    x as u64
-}
-
-fn size_at(list: &[u8], p: usize) -> usize
-    requires { ⌜ p + 2 ≤ length (now list) ⌝ }
-    ensures { λ r. ⌜ (r ≡ sizeAt (now (list .entry)) p) × (r < 65536) ⌝ }
-{
-    let a = wide(list[p]);
-    let b = wide(list[p + 1]);
-    (a + 256 * b) as usize
-}
-
-// The key of the number whose four bytes start at p.
-fn number_at(list: &[u8], p: usize) -> u64
-    requires { ⌜ p + 4 ≤ length (now list) ⌝ }
-    ensures { λ r. ⌜ (r ≡ numberAt (now (list .entry)) p) × (r < 4294967296) ⌝ }
-{
-    let low = size_at(list, p);
-    let high = size_at(list, p + 2);
-    ((low + 65536 * high) as u64 + ORIGIN) % 4294967296
-}
-
-// The first key that is left of a not-set, behind the pair that ends with `high`.
-fn next_after(next: u64, high: u64) -> u64
-    requires { ⌜ (next ≤ 4294967296) × (high < 4294967296) ⌝ }
-    ensures { λ r. ⌜ (r ≡ max next (suc high)) × (r ≤ 4294967296) ⌝ }
-{
-    if next <= high {
-        return high + 1;
-    }
-    next
-}
 
 // The point of the key a, or 0 before the points.
 fn low_of(a: u64) -> u32
@@ -195,7 +159,7 @@ pub fn read_intervals(list: &[u8], out: &mut [u32]) -> Transitions
             place: 0,
         });
     }
-    match list_transitions::read_transitions(list) {
+    match crate::read_transitions(list) {
         Transitions::Read { count, intervals } => {
             gather(list, out);
             Transitions::Read { count, intervals }

@@ -1,3 +1,0 @@
-pub mod Tags
-pub mod Puts
-pub mod Gathers
