@@ -9,7 +9,7 @@ use native.Mathlib.Omega.{arith}
 use lib.ListN.{length}
 use borrow.Author.Tests.{lt-ltb, le-ltb, le-leb, lt-leb}
 use Rattle.buffer.specs.Over.{zeros}
-use Rattle.list_transitions.specs.Transition.{Transition, points, holdAt, Complement}
+use Rattle.list_transitions.specs.Transition.{Transition, points, Complement}
 use Rattle.list_transitions.proofs.Accepted.{AllInOrder}
 use Rattle.list_transitions.proofs.Order.{le-cases}
 use Rattle.list_segments.specs.Segments.{Asc, cutsOf}

@@ -1,13 +1,13 @@
 -- GOAL LAW: every goal of a built row was given by the caller, so that the rows of good targets and of continuations that are present may stand in a table.
 -- vs is what was given, d what a row leaves out. Assumes nothing.
-use Prim.Native.Nat.{ℕ, zero, suc, _<_}
+use Prim.Native.Nat.{ℕ, zero, suc}
 use mathlib.Core.Path.{_≡_, refl}
 use mathlib.Core.Logic.{_⊎_, inl, inr, ⊎-elim}
 use mathlib.Core.Bool.{Bool, true, false}
 use mathlib.Core.List.{List, [], _∷_}
 use native.Mathlib.Omega.{arith}
 use lib.Dec.{eqb}
-use lib.ListN.{length, getD}
+use lib.ListN.{getD}
 use Rattle.refusal.specs.Lists.{pick}
 use Rattle.refusal.specs.Fixed.{NONE, DEAD-STATE}
 use Rattle.law_tables.specs.Table.{Range}

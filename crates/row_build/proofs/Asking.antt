@@ -23,7 +23,7 @@ use Rattle.list_distinct.specs.declared.Places.{Places}
 use Rattle.list_distinct.specs.declared.Places.the-variants.{Found, Refused}
 use Rattle.list_masks.specs.Masks.{distinctOf}
 use Rattle.list_masks.specs.Answer.{parseMasks, parseDistinct, masksIn}
-use Rattle.list_distinct.specs.Answer.{told, parsePlaces, foundIn, Placed}
+use Rattle.list_distinct.specs.Answer.{parsePlaces, foundIn, Placed}
 use Rattle.row_goals.specs.Goals.{differs, refusalOf}
 use Rattle.row_build.specs.Answer.{tooShort, refusedBy, withRows}
 use Rattle.row_build.specs.Asked.{Zeroed, Asked}

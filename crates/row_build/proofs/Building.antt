@@ -1,5 +1,5 @@
 -- The laws of the row call: what the segments and places that stand give is the row of the list. w is the list's bytes. Assumes nothing.
-use Prim.Native.Nat.{ℕ, zero, suc, _+_, _*_, _-_, _≤_}
+use Prim.Native.Nat.{ℕ, suc, _+_, _*_, _-_, _≤_}
 use mathlib.Core.Path.{_≡_, refl, sym, ap, ap₂, subst, _∙_}
 use mathlib.Core.Bool.{Bool, true, false}
 use mathlib.Core.List.{List, [], _∷_, _++_}
@@ -28,7 +28,7 @@ use Rattle.list_masks.proofs.Keeps.{place-some, place-none}
 use Rattle.list_masks.proofs.Packs.{length-masks}
 use Rattle.list_distinct.proofs.Distincts.{length-places, few-distinct}
 use Rattle.list_distinct.proofs.PlaceAnswers.{roomy-places}
-use Rattle.law_rows.specs.Row.{Row, Sorted, numbers, rowFrom, rowOver, joinTo, join, partFrom, values, asciiPart}
+use Rattle.law_rows.specs.Row.{Row, Sorted, numbers, rowFrom, rowOver, joinTo, join, partFrom, asciiPart}
 use Rattle.law_rows.specs.Build.{given, targetOf, contOf, rowOf, asciiOf, escapeOf}
 use Rattle.law_rows.proofs.Built as built
 use Rattle.law_rows.proofs.Searches.{sorted-weaken}

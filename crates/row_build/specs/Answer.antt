@@ -9,12 +9,11 @@ use lib.Dec.{ltb, eqb}
 use Rattle.refusal.specs.Said.{Said, ok, no}
 use Rattle.refusal.specs.Lists.{pick}
 use Rattle.buffer.specs.Over.{zeros, padded}
-use Rattle.list_transitions.specs.Transition.{Transition}
 use Rattle.list_transitions.specs.Read.{Parsed, parsed, refused}
 use Rattle.list_segments.specs.Answer.{segmentsIn}
 use Rattle.list_masks.specs.Masks.{matrix, distinctOf}
 use Rattle.list_masks.specs.Answer.{parseDistinct, masksIn}
-use Rattle.law_rows.specs.Row.{Row, numbers}
+use Rattle.law_rows.specs.Row.{numbers}
 use Rattle.law_rows.specs.Build.{asciiOf, wideOf, escapeOf}
 use Rattle.row_goals.specs.Goals.{differs, refusalOf}
 use Rattle.row_build.specs.declared.Rows.{Rows}
