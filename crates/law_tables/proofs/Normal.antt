@@ -15,7 +15,7 @@ use Rattle.word_layout.specs.declared.Layout.the-variants.{Found}
 use Rattle.word_layout.specs.Layout.{layoutOf}
 use Rattle.room_fill.specs.Room.{startsFrom, starts, copied, flag, renewed, acceptMade, configMade}
 use Rattle.room_fill.specs.Room.{continuationMade, made, shifted, placed, four, header, numbers}
-use Rattle.law_tables.specs.Table.{Table, Accept, Config, Continuation, Fields, ContinuationFields, All, each, counted, sectionWords, wordsOf, modeWords, stateWords, runWords, asciiWords, wideWords, actionWords, acceptWords, escapeWords, contextWords, configWords, continuationWords}
+use Rattle.law_tables.specs.Table.{Table, Accept, Config, Continuation, Fields, ContinuationFields, All, counted, sectionWords, wordsOf, modeWords, stateWords, runWords, asciiWords, wideWords, actionWords, acceptWords, escapeWords, contextWords, configWords, continuationWords}
 use Rattle.law_tables.specs.Places.{sectionEnd, statesPlace, runsPlace, asciiPlace, widePlace, acceptsPlace, escapesPlace, continuationsPlace, sectionsOf}
 use Rattle.law_tables.proofs.Codec.{At, Codec, start, same, on, to, at-length, at-head, at-drop}
 use Rattle.law_tables.proofs.Sizes.{counted-map, same-length, threes}

@@ -5,7 +5,8 @@ use native.Mathlib.Omega.{arith}
 use mathlib.Core.Path.{_≡_, refl, sym, ap}
 use mathlib.Core.List.{List, [], _∷_, _++_, map}
 use lib.ListN.{length, length-append, length-map}
-use Rattle.law_tables.specs.Table.{each, counted, All}
+use Rattle.refusal.specs.Lists.{each}
+use Rattle.law_tables.specs.Table.{counted, All}
 
 -- the words of records that were changed
 pub each-map : {A : Type 0} (f : A → List ℕ) (g : A → A) (xs : List A) → each f (map g xs) ≡ each (λ x. f (g x)) xs
