@@ -3,7 +3,7 @@ use Prim.Native.Nat.{ℕ}
 use mathlib.Core.Path.{_≡_, refl, sym, ap₂, _∙_}
 use mathlib.Core.List.{List, [], _∷_}
 use Rattle.list_transitions.proofs.read_transitions.Reads as read-transitions
-use Rattle.list_transitions.proofs.intervals.read_intervals.Reads as read-intervals
+use Rattle.list_transitions.proofs.read_intervals.Reads as read-intervals
 use Rattle.list_transitions.proofs.Records as transitions
 use Rattle.list_segments.proofs.char_segments.Reads as char-segments
 use Rattle.list_segments.proofs.Answers as segments

@@ -13,12 +13,10 @@ ghost use Rattle.list_masks.specs.Masks.{bit, wordOf, maskOf, masksAt, f
 ghost use Rattle.list_masks.specs.Walk.{nextOf, Rises, Passed, Reach, Floor, last, Spans, byLow, Tells, Covers, lows, column, Columned};
 ghost use Rattle.list_masks.specs.Answer.{parseMasks, Matrix, Ready};
 use list_segments::Segments;
+use list_transitions::ORIGIN;
 use list_transitions::Transitions;
 use refusal::ROOM;
 use refusal::Refusal;
-
-// The key of the point 0.
-const ORIGIN: u64 = 2147483648;
 
 // No point has a key above LAST; PAST is above it.
 const LAST: u64 = 8589934592;

@@ -1,35 +1,27 @@
-// The intervals of a list of transitions: both ends of each are written into a lent buffer. `read_transitions` judges the list first, so that the
-// records of an accepted one are walked here without a test.
+// Both ends of the intervals of a list, written into a lent buffer. The list was judged before: its records are walked here without a test.
 ghost use mathlib.Core.Path.{_≡_};
 ghost use mathlib.Core.List.{[]};
 ghost use mathlib.Core.Bool.{true};
 ghost use Prim.Native.Nat.{_+_, _*_, _-_, _≤_, min};
 ghost use lib.ListN.{length};
 ghost use Rattle.buffer.specs.Over.{Put};
-ghost use Rattle.list_transitions.specs.Transition.{origin};
+ghost use Rattle.list_transitions.specs.Transition.{origin, points};
 ghost use Rattle.list_transitions.specs.Intervals.{clip, clips, gaps, intervals, ends, endsAll};
 ghost use Rattle.list_transitions.specs.Bytes.{pairsAt, shapeOf, transOf};
 ghost use Rattle.list_transitions.specs.Read.{parse, isParsed, accepted};
-ghost use Rattle.list_transitions.specs.Ends.{parseInto, Writes};
 use crate::BEYOND;
 use crate::ORIGIN;
-use crate::Transitions;
 use crate::next_after;
 use crate::number_at;
 use crate::size_at;
-use refusal::ROOM;
-use refusal::Refusal;
 
 // How many points there are.
 const POINTS: u32 = 1114112;
 
-// Both ends of the most intervals that a list may have.
-const ENDS: usize = 2048;
-
 // The point of the key a, or 0 before the points.
 fn low_of(a: u64) -> u32
     requires { ⌜ a ≤ 4294967296 ⌝ }
-    ensures { λ r. ⌜ r ≡ a - 2147483648 ⌝ }
+    ensures { λ r. ⌜ r ≡ a - origin ⌝ }
 {
     if a <= ORIGIN {
         return 0;
@@ -39,7 +31,7 @@ fn low_of(a: u64) -> u32
 
 fn end_of(b: u64) -> u32
     requires { ⌜ b ≤ 4294967296 ⌝ }
-    ensures { λ r. ⌜ r ≡ min (b - 2147483648) 1114112 ⌝ }
+    ensures { λ r. ⌜ r ≡ min (b - origin) points ⌝ }
 {
     if b <= ORIGIN {
         return 0;
@@ -131,7 +123,7 @@ fn put_ends(list: &[u8], tag: u8, size: usize, p: usize, out: &mut [u32], n: usi
 }
 
 // Writes the ends of all intervals of an accepted list, and answers how many.
-fn gather(list: &[u8], out: &mut [u32]) -> usize
+pub(crate) fn gather(list: &[u8], out: &mut [u32]) -> usize
     requires good { ⌜ isParsed (parse (now list)) ≡ true ⌝ }
     requires room { ⌜ 2048 ≤ length (now out) ⌝ }
     ensures { λ r. ⌜ Put (endsAll (accepted (parse (now (list .entry))))) 0 (now (out .entry)) r (now (out .exit)) ⌝ }
@@ -145,25 +137,4 @@ fn gather(list: &[u8], out: &mut [u32]) -> usize
         at = at + 3 + size;
     }
     n
-}
-
-// Both ends of every interval, the low and the high + 1, in the order of the records. Refused: every number of the buffer is 0.
-// Accepted: twice as many numbers as there are intervals, then zeros.
-pub fn read_intervals(list: &[u8], out: &mut [u32]) -> Transitions
-    ensures { λ r. ⌜ Writes r (length (now (out .entry))) (now (out .exit)) (parseInto (length (now (out .entry))) (now (list .entry))) ⌝ }
-{
-    buffer::clear(out);
-    if out.len() < ENDS {
-        return Transitions::Refused(Refusal {
-            number: ROOM,
-            place: 0,
-        });
-    }
-    match crate::read_transitions(list) {
-        Transitions::Read { count, intervals } => {
-            gather(list, out);
-            Transitions::Read { count, intervals }
-        }
-        Transitions::Refused(r) => Transitions::Refused(r),
-    }
 }

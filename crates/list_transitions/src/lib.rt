@@ -2,7 +2,6 @@
 // any length and hold any bytes.
 mod intervals;
 
-pub use intervals::read_intervals;
 ghost use mathlib.Core.Path.{_≡_};
 ghost use mathlib.Core.List.{[]};
 ghost use mathlib.Core.Bool.{true};
@@ -13,18 +12,23 @@ ghost use Rattle.list_transitions.specs.Transition.{orderly, inOrder, or
 ghost use Rattle.list_transitions.specs.Intervals.{clip, clips, gaps, intervals};
 ghost use Rattle.list_transitions.specs.Bytes.{numberAt, sizeAt, pairsAt, shapeOf, transOf};
 ghost use Rattle.list_transitions.specs.Read.{said, stepOf, bodyAt, recordAt, parse, counted};
+ghost use Rattle.list_transitions.specs.Ends.{parseInto, Writes};
 use refusal::FIELD;
 use refusal::LIMIT;
 use refusal::MAX_INTERVALS;
 use refusal::MAX_TRANSITIONS;
 use refusal::ORDER;
+use refusal::ROOM;
 use refusal::Refusal;
 use refusal::SHORT;
 
 // The key of the point 0, and the key behind the last point.
-pub(crate) const ORIGIN: u64 = 2147483648;
+pub const ORIGIN: u64 = 2147483648;
 
 pub(crate) const BEYOND: u64 = 2148597760;
+
+// Both ends of the most intervals that a list may have.
+const ENDS: usize = 2048;
 
 // How many transitions and intervals a list has, or why it is none.
 pub enum Transitions {
@@ -282,5 +286,26 @@ pub fn read_transitions(list: &[u8]) -> Transitions
     Transitions::Read {
         count: MAX_TRANSITIONS - left,
         intervals: used,
+    }
+}
+
+// Both ends of every interval, the low and the high + 1, in the order of the records. Refused: every number of the buffer is 0.
+// Accepted: twice as many numbers as there are intervals, then zeros.
+pub fn read_intervals(list: &[u8], out: &mut [u32]) -> Transitions
+    ensures { λ r. ⌜ Writes r (length (now (out .entry))) (now (out .exit)) (parseInto (length (now (out .entry))) (now (list .entry))) ⌝ }
+{
+    buffer::clear(out);
+    if out.len() < ENDS {
+        return Transitions::Refused(Refusal {
+            number: ROOM,
+            place: 0,
+        });
+    }
+    match read_transitions(list) {
+        Transitions::Read { count, intervals } => {
+            intervals::gather(list, out);
+            Transitions::Read { count, intervals }
+        }
+        Transitions::Refused(r) => Transitions::Refused(r),
     }
 }
