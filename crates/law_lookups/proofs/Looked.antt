@@ -10,7 +10,7 @@ use lib.ListN.{length, getD, take, List·getD-eq-default}
 use lib.Seq.{length-take-le}
 use borrow.Author.Tests.{le-leb, lt-ltb, le-ltb, ne-eqb, ltb-true, ltb-false}
 use Rattle.refusal.specs.Said.{Said, ok, no, STATE, NOT-TABLE}
-use Rattle.refusal.specs.Fixed.{NONE}
+use Rattle.refusal.specs.Fixed.{NONE, DEAD-STATE}
 use Rattle.refusal.specs.Lists.{pick, each}
 use Rattle.room_find.specs.declared.Found.the-variants as place
 use Rattle.look_row.specs.declared.Hit.the-variants as hit
@@ -259,26 +259,26 @@ module _ (t : Table) (h : Fields t) (r : Rules t) (w : List ℕ) (k : Held t w) 
       → (p : ℕ) × (wideRowAt w row ≡ place.At p) × Within w (getD w ACCEPTS-START 0) p (wideWords (getD (t .wide) row []))
   wide-row row l = let q = listed-is (k .wide) (k .wide-places) row [] l (omega arith) in (q .0, wide-listed t w k row ∙ q .1, q .2)
 
-  wide-target : (row : ℕ) → row < length (t .wide) → (x : ℕ) → wideTarget w row x ≡ ok (goalAt 65535 (getD (t .wide) row []) x ∷ [])
+  wide-target : (row : ℕ) → row < length (t .wide) → (x : ℕ) → wideTarget w row x ≡ ok (goalAt DEAD-STATE (getD (t .wide) row []) x ∷ [])
   unfolding follow
   wide-target row l x =
       let q = wide-row row l in
       let rs = getD (t .wide) row [] in
       let v = all-map RangeFields (λ y. target (y .goal) ≡ ok (y .goal ∷ [])) (λ y b. target-is (y .goal) b) rs
       (all-nth (All RangeFields) (t .wide) row [] (h .wide) l) in
-      rw (q .1) (search-goal w x target 65535 (no NOT-TABLE 0) rs (getD w ACCEPTS-START 0) (q .0) (inside (k .wide)) (q .2) v)
+      rw (q .1) (search-goal w x target DEAD-STATE (no NOT-TABLE 0) rs (getD w ACCEPTS-START 0) (q .0) (inside (k .wide)) (q .2) v)
 
   pub char-is : (s x : ℕ) → charTarget w s x ≡ charTargetOf t s x
   char-is s x = go (ltb x 128) refl
     where
       go : (b : Bool) → ltb x 128 ≡ b
           → rooms.ofState w s (λ p. pick b (rowTarget w (getD w p 0) x) (wideTarget w (getD w (p + 1) 0) x))
-          ≡ ofState t s (pick b (getD (rowOf t s) x 0) (goalAt 65535 (getD (t .wide) (stateOf t s .wide) []) x))
+          ≡ ofState t s (pick b (getD (rowOf t s) x 0) (goalAt DEAD-STATE (getD (t .wide) (stateOf t s .wide) []) x))
       go true u =
           of-state s (λ p. rowTarget w (getD w p 0) x) (ok (getD (rowOf t s) x 0 ∷ []))
           (λ p l z. ap (λ n. rowTarget w n x) (number-ascii s z) ∙ row-target (stateOf t s .ascii) (has-rows s l .0) x (ltb-true _ _ u))
       go false u =
-          of-state s (λ p. wideTarget w (getD w (p + 1) 0) x) (ok (goalAt 65535 (getD (t .wide) (stateOf t s .wide) []) x ∷ []))
+          of-state s (λ p. wideTarget w (getD w (p + 1) 0) x) (ok (goalAt DEAD-STATE (getD (t .wide) (stateOf t s .wide) []) x ∷ []))
           (λ p l z. ap (λ n. wideTarget w n x) (number-wide s z) ∙ wide-target (stateOf t s .wide) (has-rows s l .1) x)
 
   -- Escape rows

@@ -6,7 +6,7 @@ use mathlib.Core.List.{List, [], _∷_, map}
 use lib.Dec.{ltb, leb, eqb}
 use lib.ListN.{length, getD, take, drop}
 use Rattle.refusal.specs.Said.{Said, ok, no, STATE}
-use Rattle.refusal.specs.Fixed.{NONE}
+use Rattle.refusal.specs.Fixed.{NONE, DEAD-STATE}
 use Rattle.refusal.specs.Lists.{pick, some, each}
 use Rattle.run_shape.specs.Shape.{Got, run, refused, held}
 use Rattle.run_shape.specs.Classify.{classification}
@@ -53,7 +53,7 @@ asciiTargetOf t s x = pick (ltb x 128) (ofState t s (getD (rowOf t s) x 0)) (no 
 
 -- "0 to 127 use the ascii row; otherwise" the wide row, or dead
 abbrev pub charTargetOf : Table → ℕ → ℕ → Said
-charTargetOf t s x = ofState t s (pick (ltb x 128) (getD (rowOf t s) x 0) (goalAt 65535 (getD (t .wide) (stateOf t s .wide) []) x))
+charTargetOf t s x = ofState t s (pick (ltb x 128) (getD (rowOf t s) x 0) (goalAt DEAD-STATE (getD (t .wide) (stateOf t s .wide) []) x))
 
 -- a state's escape row has its number
 abbrev pub escapeOf : Table → ℕ → Escape

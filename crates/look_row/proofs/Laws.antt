@@ -7,6 +7,7 @@ use mathlib.Core.Bool.{Bool, true, false}
 use mathlib.Core.List.{List, [], _∷_}
 use lib.Dec.{leb}
 use lib.ListN.{length, getD, drop}
+use Rattle.refusal.specs.Fixed.{DEAD-STATE}
 use Rattle.refusal.specs.Lists.{pick}
 use Rattle.look_row.specs.declared.Hit.{Hit}
 use Rattle.look_row.specs.declared.Hit.the-variants.{Third, Gap}
@@ -28,17 +29,17 @@ found-same w v x (suc n) at bt h = rw (low, h 1 (omega arith), h 2 (omega arith)
     behind j l = let e : at + 3 + j ≡ at + (3 + j) = omega arith in let f : bt + 3 + j ≡ bt + (3 + j) = omega arith in rw (e, f) (h (3 + j) (omega arith))
 
 -- one range, and the ranges behind it
-target-open : (b c : Bool) (t : ℕ) (h : Hit) → targetOf (pick b (pick c (Third t) Gap) h) ≡ pick b (pick c t 65535) (targetOf h)
+target-open : (b c : Bool) (t : ℕ) (h : Hit) → targetOf (pick b (pick c (Third t) Gap) h) ≡ pick b (pick c t DEAD-STATE) (targetOf h)
 unfolding given
 target-open true true t h = refl
 target-open true false t h = refl
 target-open false c t h = refl
 
 pub first-range : (r : WideRange) (rs : List WideRange) (x : ℕ)
-    → targetIn (r ∷ rs) x ≡ pick (leb x (r .high)) (pick (leb (r .low) x) (r .target) 65535) (targetIn rs x)
+    → targetIn (r ∷ rs) x ≡ pick (leb x (r .high)) (pick (leb (r .low) x) (r .target) DEAD-STATE) (targetIn rs x)
 unfolding targetIn found
 first-range r rs x = target-open (leb x (r .high)) (leb (r .low) x) (r .target) (found (numbers (r ∷ rs)) x (length rs) 3)
-    ∙ ap (λ h. pick (leb x (r .high)) (pick (leb (r .low) x) (r .target) 65535) (targetOf h)) behind
+    ∙ ap (λ h. pick (leb x (r .high)) (pick (leb (r .low) x) (r .target) DEAD-STATE) (targetOf h)) behind
   where
     behind : found (numbers (r ∷ rs)) x (length rs) 3 ≡ found (numbers rs) x (length rs) 0
     behind = found-same (numbers (r ∷ rs)) (numbers rs) x (length rs) 3 0
@@ -46,13 +47,13 @@ first-range r rs x = target-open (leb x (r .high)) (leb (r .low) x) (r .target) 
 
 -- the row from place i on
 pub at-place : (ys : List WideRange) (x i : ℕ) (none : WideRange) → i < length ys
-    → targetIn (drop i ys) x ≡ pick (leb x (getD ys i none .high)) (pick (leb (getD ys i none .low) x) (getD ys i none .target) 65535)
+    → targetIn (drop i ys) x ≡ pick (leb x (getD ys i none .high)) (pick (leb (getD ys i none .low) x) (getD ys i none .target) DEAD-STATE)
     (targetIn (drop (suc i) ys) x)
 at-place [] x i none l = absurd (not-suc-le-zero l)
 at-place (y ∷ ys) x zero none l = first-range y ys x
 at-place (y ∷ ys) x (suc i) none l = at-place ys x i none (le-of-suc-le-suc l)
 
-pub no-range : (x : ℕ) → targetIn [] x ≡ 65535
+pub no-range : (x : ℕ) → targetIn [] x ≡ DEAD-STATE
 unfolding targetIn found given
 no-range x = refl
 

@@ -3,6 +3,7 @@ use Prim.Native.Nat.{ℕ, _+_, _*_, _<_, _≤_}
 use mathlib.Core.Path.{_≡_}
 use mathlib.Core.List.{List, [], _∷_}
 use lib.ListN.{length, getD}
+use Rattle.refusal.specs.Fixed.{DEAD-STATE}
 use Rattle.look_row.specs.declared.Hit.{Hit}
 use Rattle.look_row.specs.Search.{found, given}
 use Rattle.look_row.specs.declared.WideRange.{WideRange}
@@ -14,7 +15,7 @@ numbers (r ∷ rs) = r .low ∷ r .high ∷ r .target ∷ numbers rs
 
 -- the target that a search gives, "else dead"
 abbrev pub targetOf : Hit → ℕ
-targetOf h = given h (λ t. t) 65535 65535
+targetOf h = given h (λ t. t) DEAD-STATE DEAD-STATE
 
 -- "read to the first range whose high is at least the symbol;
 -- its target if low is at most the symbol, else dead": over records, by the search over their numbers

@@ -3,6 +3,7 @@ use Prim.Native.Nat.{ℕ, _+_, _/_, _%_}
 use mathlib.Core.List.{List, [], _∷_}
 use lib.Dec.{ltb, leb, eqb}
 use lib.ListN.{getD}
+use Rattle.refusal.specs.Fixed.{DEAD-STATE}
 use Rattle.refusal.specs.Said.{Said, ok, no, STATE, NOT-TABLE}
 use Rattle.refusal.specs.Lists.{pick}
 use Rattle.room_find.specs.declared.Found.{Found}
@@ -38,7 +39,7 @@ wideRowAt w row = listedAt w WIDE-START row
 
 -- the target of the range that a search gives, "else dead"
 abbrev pub searchTarget : List ℕ → ℕ → ℕ → ℕ → Said
-searchTarget w p e x = given (searched w p e x) target (ok (65535 ∷ [])) (no NOT-TABLE 0)
+searchTarget w p e x = given (searched w p e x) target (ok (DEAD-STATE ∷ [])) (no NOT-TABLE 0)
 
 abbrev pub wideTarget : List ℕ → ℕ → ℕ → Said
 wideTarget w row x = follow (wideRowAt w row) (λ p. searchTarget w p (endOf w WIDE-START) x) (no NOT-TABLE 0) (no NOT-TABLE 0)
