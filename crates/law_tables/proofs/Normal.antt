@@ -15,13 +15,16 @@ use Rattle.word_layout.specs.declared.Layout.the-variants.{Found}
 use Rattle.word_layout.specs.Layout.{layoutOf}
 use Rattle.room_fill.specs.Room.{startsFrom, starts, copied, flag, renewed, acceptMade, configMade}
 use Rattle.room_fill.specs.Room.{continuationMade, made, shifted, placed, four, header, numbers}
-use Rattle.law_tables.specs.Table.{Table, Accept, Config, Continuation, Fields, ContinuationFields, All, counted, sectionWords, wordsOf, modeWords, stateWords, runWords, asciiWords, wideWords, actionWords, acceptWords, escapeWords, contextWords, configWords, continuationWords}
+use Rattle.law_tables.specs.Table.{Table, Accept, Config, Continuation, Fields, ContinuationFields, All, counted, sectionWords, wordsOf, modeWords}
+use Rattle.law_tables.specs.Table.{stateWords, runWords, asciiWords, wideWords, actionWords, acceptWords, escapeWords, contextWords, configWords}
+use Rattle.law_tables.specs.Table.{continuationWords}
 use Rattle.law_tables.specs.Places.{sectionEnd, statesPlace, runsPlace, asciiPlace, widePlace, acceptsPlace, escapesPlace, continuationsPlace, sectionsOf}
 use Rattle.law_tables.proofs.Codec.{At, Codec, start, same, on, to, at-length, at-head, at-drop}
 use Rattle.law_tables.proofs.Sizes.{counted-map, same-length, threes}
 use Rattle.law_tables.proofs.Runs.{run-codec}
 use Rattle.law_tables.proofs.Records.{wide-row, accept, escape, config, continuation, all-always}
-use Rattle.law_tables.proofs.Placed.{fromContinuations, fromEscapes, fromAccepts, fromAscii, runs-stand, wide-stand, accepts-stand, escapes-stand, continuations-stand, layout-is}
+use Rattle.law_tables.proofs.Placed.{fromContinuations, fromEscapes, fromAccepts, fromAscii, runs-stand, wide-stand, accepts-stand, escapes-stand}
+use Rattle.law_tables.proofs.Placed.{continuations-stand, layout-is}
 use Rattle.law_tables.specs.Normal.{normalAccept, normalConfig, normalContinuation, normal}
 
 -- Lengths

@@ -8,7 +8,8 @@ use mathlib.Core.Bool.{Bool, true, false, _&&_, and-true, and-false}
 use lib.Dec.{leb}
 use lib.ListN.{length, getD}
 use borrow.Author.Needs.{needs}
-use Rattle.rule_words.specs.Rules.{everyFrom, walk, sized, eachWord, good, noneOr, present, bothGood, follows, searchable, thirds, wideGood, escapeGood, nextFrom}
+use Rattle.rule_words.specs.Rules.{everyFrom, walk, sized, eachWord, good, noneOr, present, bothGood, follows, searchable, thirds, wideGood, escapeGood}
+use Rattle.rule_words.specs.Rules.{nextFrom}
 use Rattle.rule_words.proofs.Laws.{past-end, past-all, striding}
 use Rattle.rule_rows.specs.declared.Third.{Third}
 use Rattle.rule_rows.specs.declared.Third.the-variants.{Target, Continuation}
