@@ -2,7 +2,7 @@
 use Prim.Native.Nat.{ℕ}
 use mathlib.Core.List.{[], _∷_}
 use lib.ListN.{getD}
-use Rattle.refusal.specs.Said.{Said, ok, no}
+use Rattle.refusal.specs.Said.{Said, ok, noBy}
 use Rattle.c_accepts.specs.declared.CAccept.{CAccept}
 
 abbrev pub noAccept : ℕ → CAccept
@@ -12,4 +12,4 @@ noAccept n = record { number = n; found = 0; rule = 0; «consumed_eof» = 0; act
 abbrev pub acceptInC : Said → CAccept
 acceptInC (ok []) = noAccept 0
 acceptInC (ok (rule ∷ l)) = record { number = 0; found = 1; rule = rule; «consumed_eof» = getD l 0 0; actions = getD l 1 0 }
-acceptInC (no n p) = noAccept n
+acceptInC (noBy r) = noAccept (r .number)

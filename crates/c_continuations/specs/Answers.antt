@@ -2,7 +2,7 @@
 use Prim.Native.Nat.{ℕ}
 use mathlib.Core.List.{[], _∷_}
 use lib.ListN.{getD}
-use Rattle.refusal.specs.Said.{Said, ok, no}
+use Rattle.refusal.specs.Said.{Said, ok, noBy}
 use Rattle.c_continuations.specs.declared.CContinuation.{CContinuation}
 
 abbrev pub noContinuation : ℕ → CContinuation
@@ -12,4 +12,4 @@ noContinuation n = record { number = n; found = 0; contexts = 0; configs = 0 }
 abbrev pub continuationInC : Said → CContinuation
 continuationInC (ok []) = noContinuation 0
 continuationInC (ok (contexts ∷ l)) = record { number = 0; found = 1; contexts = contexts; configs = getD l 0 0 }
-continuationInC (no n p) = noContinuation n
+continuationInC (noBy r) = noContinuation (r .number)

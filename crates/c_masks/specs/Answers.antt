@@ -4,7 +4,7 @@ use Prim.Native.Nat.{ℕ}
 use mathlib.Core.Path.{_≡_}
 use mathlib.Core.List.{List}
 use lib.ListN.{getD}
-use Rattle.refusal.specs.Said.{Said, ok, no}
+use Rattle.refusal.specs.Said.{Said, ok, noBy}
 use Rattle.list_transitions.specs.Read.{Parsed}
 use Rattle.list_segments.specs.Answer.{segmentsIn}
 use Rattle.list_masks.specs.Masks.{matrix, distinctOf}
@@ -14,7 +14,7 @@ use Rattle.c_masks.specs.declared.CMasks.{CMasks}
 -- how many masks, and of how many words each
 abbrev pub masksInC : Said → CMasks
 masksInC (ok l) = record { number = 0; place = 0; masks = getD l 0 0; words = getD l 1 0 }
-masksInC (no n p) = record { number = n; place = p; masks = 0; words = 0 }
+masksInC (noBy r) = record { number = r .number; place = r .place; masks = 0; words = 0 }
 
 -- the answer says it, and the buffers hold it: the segments, and a mask for each ..
 pub record MatrixInC (r : CMasks) (s : ℕ) (segments : List ℕ) (n : ℕ) (masks : List ℕ) (x : Parsed) : Type 0 where

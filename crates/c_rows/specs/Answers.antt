@@ -4,7 +4,7 @@ use Prim.Native.Nat.{ℕ}
 use mathlib.Core.Path.{_≡_}
 use mathlib.Core.List.{List}
 use lib.ListN.{getD}
-use Rattle.refusal.specs.Said.{Said, ok, no}
+use Rattle.refusal.specs.Said.{Said, ok, noBy}
 use Rattle.list_transitions.specs.Read.{Parsed}
 use Rattle.list_segments.specs.Answer.{segmentsIn}
 use Rattle.list_masks.specs.Masks.{matrix, distinctOf}
@@ -15,7 +15,7 @@ use Rattle.c_rows.specs.declared.CRows.{CRows}
 -- how many numbers the wide row and the escape row have
 abbrev pub rowsInC : Said → CRows
 rowsInC (ok l) = record { number = 0; place = 0; wide = getD l 0 0; escape = getD l 1 0 }
-rowsInC (no n p) = record { number = n; place = p; wide = 0; escape = 0 }
+rowsInC (noBy r) = record { number = r .number; place = r .place; wide = 0; escape = 0 }
 
 -- the answer says it, and the six buffers hold it
 pub record BuildsInC (r : CRows) (l : Lent) (segments masks distinct ascii wide escape : List ℕ) (targets conts : List ℕ) (x : Parsed) : Type 0 where

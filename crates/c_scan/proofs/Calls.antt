@@ -14,6 +14,7 @@ use Rattle.run_shape.specs.declared.AsciiRunScan.{AsciiRunScan}
 use Rattle.run_shape.specs.declared.Scanned.{Scanned}
 use Rattle.run_shape.specs.declared.Scanned.the-variants.{NoRun, Skipped}
 use Rattle.run_shape.specs.Shape.{shapeOf, Got, run, refused, Gives}
+use Rattle.refusal.specs.Said.{refusalAt}
 use Rattle.run_shape.specs.Scan.{bit, said, scanSaid, scannedBy}
 use Rattle.run_shape.proofs.Answers.{given}
 use Rattle.c_scan.specs.declared.CScan.{CScan}
@@ -52,7 +53,7 @@ module _ (bs : List ℕ) {q : RunAnswer} where
       absurd (omega arith)
   scan-refused (refused n p) {x} h e =
       let j = given (refused n p) h in
-      let m : x ≡ record { number = n; place = p } = cc in
+      let m : x ≡ refusalAt n p = cc in
       rw m
 
 pub ruleset calling = (needs, scan-none, scan-skipped, scan-run, scan-refused)

@@ -2,7 +2,7 @@
 use Prim.Native.Nat.{ℕ}
 use mathlib.Core.List.{List, [], _∷_}
 use lib.ListN.{getD}
-use Rattle.refusal.specs.Said.{Said, ok, no}
+use Rattle.refusal.specs.Said.{Said, ok, noBy}
 use Rattle.run_shape.specs.Words.{readAlone}
 use Rattle.run_shape.specs.Scan.{scannedBy}
 use Rattle.c_scan.specs.declared.CScan.{CScan}
@@ -14,7 +14,7 @@ refusedScan n p = record { number = n; place = p; ran = 0; bytes = 0; «found_ex
 abbrev pub scanInC : Said → CScan
 scanInC (ok []) = refusedScan 0 0
 scanInC (ok (n ∷ l)) = record { number = 0; place = 0; ran = 1; bytes = n; «found_exit» = getD l 0 0 }
-scanInC (no n p) = refusedScan n p
+scanInC (noBy r) = refusedScan (r .number) (r .place)
 
 -- the scan by the run whose words these are; anything but one run's words is FIELD
 abbrev pub scanCall : List ℕ → List ℕ → Said

@@ -2,7 +2,7 @@
 use Prim.Native.Nat.{ℕ, _+_}
 use mathlib.Core.List.{[], _∷_}
 use lib.ListN.{getD}
-use Rattle.refusal.specs.Said.{Said, ok, no}
+use Rattle.refusal.specs.Said.{Said, ok, noBy}
 use Rattle.c_state_scan.specs.declared.CStateScan.{CStateScan}
 
 abbrev pub noScan : ℕ → CStateScan
@@ -12,4 +12,4 @@ noScan n = record { bytes = 0; number = n; stop = 0 }
 abbrev pub stateScanInC : Said → CStateScan
 stateScanInC (ok []) = noScan 0
 stateScanInC (ok (n ∷ l)) = record { bytes = n; number = 0; stop = getD l 0 0 + 1 }
-stateScanInC (no n p) = noScan n
+stateScanInC (noBy r) = noScan (r .number)

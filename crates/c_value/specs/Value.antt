@@ -1,7 +1,7 @@
 -- What a lookup answers in C: a number of 0 and the value, or the refusal's number. Assumes nothing.
 use Prim.Native.Nat.{ℕ}
 use lib.ListN.{getD}
-use Rattle.refusal.specs.Said.{Said, ok, no}
+use Rattle.refusal.specs.Said.{Said, ok, noBy}
 use Rattle.refusal.specs.Fixed.{NONE}
 use Rattle.c_value.specs.declared.CValue.{CValue}
 
@@ -15,4 +15,4 @@ refusal n = record { value = 0; number = n }
 -- what a lookup says, with NONE where it says no value
 abbrev pub valueInC : Said → CValue
 valueInC (ok l) = answer (getD l 0 NONE)
-valueInC (no n p) = refusal n
+valueInC (noBy r) = refusal (r .number)

@@ -7,6 +7,7 @@ use mathlib.Core.List.{List, [], _∷_}
 use lib.Dec.{ltb, eqb}
 use lib.ListN.{length, getD}
 use Rattle.refusal.specs.Said.{Said, ok, no, ROOM, STATE, NOT-TABLE, ORDER}
+use Rattle.refusal.proofs.Apart.{one-number}
 use Rattle.refusal.specs.Fixed.{NONE}
 use Rattle.refusal.specs.Lists.{pick}
 use Rattle.run_shape.specs.Shape as run
@@ -24,7 +25,7 @@ known-ok : (l : List ℕ) → Known (ok l)
 known-ok l p e = let z : _≡_ {A = ℕ} 0 1 = cc in omega arith
 
 known-state : Known (no STATE 0)
-known-state p e = let z : STATE ≡ NOT-TABLE = cc in omega arith
+known-state p e = let z : STATE ≡ NOT-TABLE = one-number e in omega arith
 
 known-pick : (b : Bool) (x y : Said) → Known x → Known y → Known (pick b x y)
 known-pick true x y f g = f

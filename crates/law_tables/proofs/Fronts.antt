@@ -11,7 +11,7 @@ use lib.ListN.{length, getD, take, drop, length-append, length-drop, length-repl
 use lib.Seq.{length-take-le, take-append-seam, take-append-add, take-at, take-take, take-add, drop-cons, getD-append-add, getD-take}
 use borrow.Author.Tests.{leb-true, leb-false, eqb-true, eqb-false, ne-eqb}
 use Rattle.refusal.specs.declared.Refusal.{Refusal}
-use Rattle.refusal.specs.Said.{SHORT, TAG, FIELD}
+use Rattle.refusal.specs.Said.{refusalAt, SHORT, TAG, FIELD}
 use Rattle.refusal.specs.Fixed.{tag}
 use Rattle.refusal.specs.Lists.{pick}
 use Rattle.word_reader.specs.declared.Place.{Place}
@@ -52,7 +52,7 @@ one-way e f = let z : _≡_ {A = ℕ} 0 1 = cc in omega arith
 -- and refused in one way
 pub one-refusal : {x : Place} {n p m q : ℕ} → x ≡ refused n p → x ≡ refused m q → (n ≡ m) × (p ≡ q)
 one-refusal {n = n} {p} {m} {q} e f =
-    let i : _≡_ {A = Refusal} (record { number = n; place = p }) (record { number = m; place = q }) = cc in
+    let i : _≡_ {A = Refusal} (refusalAt n p) (refusalAt m q) = cc in
     (ap (λ (r : Refusal). r .number) i, ap (λ (r : Refusal). r .place) i)
 
 -- Tables: their words are read to the end, whatever is behind them, and open no other's

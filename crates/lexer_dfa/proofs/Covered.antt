@@ -9,6 +9,7 @@ use lib.ListN.{length}
 use borrow.Author.Tests.{ltb-true, ltb-false}
 use denote.Ref.{RefT}
 use Rattle.refusal.specs.Said.{ok, no, STATE, NOT-TABLE}
+use Rattle.refusal.proofs.Apart.{one-number, one-place}
 use Rattle.refusal.specs.Lists.{pick}
 use Rattle.room_decode.specs.declared.Decoded.{Decoded}
 use Rattle.room_decode.specs.Decode.{said}
@@ -44,19 +45,16 @@ decoded-coverage words room f enough x left d modes states count e =
     let h : isTable left ≡ true = subst (λ v. isTable v ≡ true) (sym (sym (d .3) ∙ d .2 .1)) (trip .held) in
     (a, held-coverage t (a .fields) (a .rules) left k h)
 
--- an answer is no refusal; a refusal has one place; and STATE is not NOT-TABLE
+-- an answer is no refusal, and STATE is not NOT-TABLE
 ok-no : {l : List ℕ} {k p : ℕ} → ok l ≡ no k p → ⊥
 ok-no e = let z : _≡_ {A = ℕ} 0 1 = cc in absurd (omega arith)
-
-zero-place : {k p : ℕ} → no k 0 ≡ no k p → p ≡ 0
-zero-place e = cc
 
 on-table : (t : Table) (s p : ℕ) → coverageOn t s ≡ no NOT-TABLE p → ⊥
 on-table t s p e = go (ltb s (length (t .states))) _ e
   where
     go : (b : Bool) (l : List ℕ) → pick b (ok l) (no STATE 0) ≡ no NOT-TABLE p → ⊥
     go true l i = ok-no i
-    go false l i = let z : _≡_ {A = ℕ} 8 9 = cc in absurd (omega arith)
+    go false l i = let z : STATE ≡ NOT-TABLE = one-number i in absurd (omega arith)
 
 -- a room in which decode leaves a table has room for one
 left-enough : {w d : List ℕ} → Leaves w d → 16384 ≤ length d
@@ -92,7 +90,7 @@ coverage-answers room f s x a =
     (record {
       not-table = λ p. (
         λ e. let h = none-left d 0 (λ t. let c = left-counts (own t) s in on-table (c .0) s p (sym (c .4) ∙ e)) in
-            (zero-place (sym (says-no-table d s h) ∙ e), λ w l. false≢true (sym h ∙ leaves-table l .0)),
+            (sym (one-place (sym (says-no-table d s h) ∙ e)), λ w l. false≢true (sym h ∙ leaves-table l .0)),
         λ h. says-no-table d s (none-left d 0 (λ t. h .1 (wordsPart d) (own t))) ∙ ap (no NOT-TABLE) (sym (h .0)),
       );
       counts = λ w l. left-counts l s;

@@ -10,7 +10,7 @@ use lib.Dec.{ltb, eqb}
 use lib.ListN.{length, getD}
 use borrow.Author.Tests.{ltb-true, ltb-false, lt-ltb, le-ltb, ne-eqb}
 use denote.Ref.{RefT}
-use Rattle.refusal.specs.Said.{Said, ok, no, SHORT, TAG, FIELD, LIMIT, LEFT, INDEX, ROOM}
+use Rattle.refusal.specs.Said.{Said, ok, noBy, no, SHORT, TAG, FIELD, LIMIT, LEFT, INDEX, ROOM}
 use Rattle.refusal.specs.Lists.{pick}
 use Rattle.word_layout.specs.declared.Layout.{Layout}
 use Rattle.word_layout.specs.declared.Layout.the-variants.{Found, Unfound}
@@ -100,7 +100,7 @@ data Reason (w : List ℕ) (n k p : ℕ) : Type 0 where
 -- of words w and a room of n numbers this is said
 abbrev Why : List ℕ → ℕ → Said → Type 0
 Why w n (ok l) = Accepted w (getD l 0 0) (getD l 1 0) (getD l 2 0)
-Why w n (no k p) = Reason w n k p
+Why w n (noBy r) = Reason w n (r .number) (r .place)
 
 -- the words are a table's
 table-why : (t : Table) → Fields t → (n : ℕ) → WithinLimits (wordsOf t) n → Why (wordsOf t) n (said (decodeOf (wordsOf t) n))

@@ -11,7 +11,7 @@ use lib.Seq.{getD-take, getD-drop}
 use borrow.Author.Tests.{ltb-true, ltb-false, lt-ltb, le-ltb}
 use contract.Lifetimes.{Lfts}
 use denote.Ref.{RefT}
-use Rattle.refusal.specs.Said.{Said, ok, no, NOT-TABLE, ROOM}
+use Rattle.refusal.specs.Said.{Said, ok, noBy, no, NOT-TABLE, ROOM}
 use Rattle.buffer.specs.declared.Written.{Written}
 use Rattle.buffer.specs.Written.{said}
 use Rattle.buffer.specs.Over.{zeros}
@@ -127,7 +127,7 @@ data Reason (d : List ℕ) (n k p : ℕ) : Type 0 where
 -- of a room d and an output of n numbers this is said
 abbrev Why : List ℕ → ℕ → Said → Type 0
 Why d n (ok l) = (isTable d ≡ true) × (length (wordsPart d) ≤ n) × (l ≡ length (wordsPart d) ∷ [])
-Why d n (no k p) = Reason d n k p
+Why d n (noBy r) = Reason d n (r .number) (r .place)
 
 module _ (d : List ℕ) (n : ℕ) where
   says-no-table : isTable d ≡ false → said (encodeOf d n) ≡ no NOT-TABLE 0

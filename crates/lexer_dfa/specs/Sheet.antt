@@ -3,7 +3,7 @@ use Prim.Native.Nat.{ℕ, _*_}
 use mathlib.Core.Path.{_≡_}
 use mathlib.Core.List.{List, [], _∷_, _++_, map}
 use lib.ListN.{take, replicate}
-use Rattle.refusal.specs.Said.{Said, ok, no}
+use Rattle.refusal.specs.Said.{Said, ok, noBy, no}
 use Rattle.refusal.specs.Fixed.{tag, NONE, DEAD-STATE}
 use Rattle.refusal.specs.Lists.{pick}
 use Rattle.run_ranges.specs.declared.AsciiRange.{AsciiRange}
@@ -57,7 +57,7 @@ wordsSaid (refused n p) = no n p
 -- what is left in front of a buffer: as many numbers as the answer's own numbers tell, or the refusal that was given
 abbrev pub leftSaid : (List ℕ → List ℕ) → Said → Said
 leftSaid f (ok l) = ok (f l)
-leftSaid f (no n p) = no n p
+leftSaid f (noBy r) = noBy r
 
 -- the numbers of an answer
 abbrev pub firstOf : List ℕ → ℕ

@@ -9,7 +9,7 @@ use borrow.Author.Tests.{lt-ltb, le-ltb, ltb-false}
 use lib.Dec.{ltb}
 use lib.ListN.{length, getD, length-replicate, length-append}
 use Rattle.refusal.specs.declared.Refusal.{Refusal}
-use Rattle.refusal.specs.Said.{Said, ok, no, ROOM}
+use Rattle.refusal.specs.Said.{Said, ok, refusalAt, noBy, ROOM}
 use Rattle.refusal.specs.Lists.{pick}
 use Rattle.buffer.specs.Over.{lay, zeros, padded}
 use Rattle.buffer.proofs.Overs.{lay-zeros}
@@ -189,7 +189,7 @@ module _ (e f : List ℕ) {d q : List ℕ} (z : Zeroed e d f q) where
 
     module _ (w a b : List ℕ) where
       pub none-room : {ns ms : List ℕ} → t ≡ true → Zeroed b ms a ns →
-          Placed (place.Refused (record { number = ROOM; place = 0 })) (length a) ns (length b) ms (length e) d (length f) q
+          Placed (place.Refused (refusalAt ROOM 0)) (length a) ns (length b) ms (length e) d (length f) q
           (parsePlaces (length a) (length b) (length e) (length f) w)
       unfolding parsePlaces parseDistinct foundIn segmentsIn masksIn placedIn
       none-room h s =
@@ -215,7 +215,7 @@ roomy-places s n d w = refl
 
 abbrev back : Said → Places
 back (ok l) = place.Found (getD l 0 0) (getD l 1 0) (getD l 2 0)
-back (no n p) = place.Refused (record { number = n; place = p })
+back (noBy r) = place.Refused r
 
 back-told : (x : Places) → back (told x) ≡ x
 back-told (place.Found segments masks words) = refl

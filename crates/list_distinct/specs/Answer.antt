@@ -6,7 +6,7 @@ use mathlib.Core.Path.{_≡_}
 use mathlib.Core.List.{List, [], _∷_}
 use lib.ListN.{length}
 use lib.Dec.{ltb}
-use Rattle.refusal.specs.Said.{Said, ok, no, ROOM}
+use Rattle.refusal.specs.Said.{Said, ok, noBy, no, ROOM}
 use Rattle.refusal.specs.Lists.{pick}
 use Rattle.buffer.specs.Over.{zeros, padded}
 use Rattle.list_transitions.specs.Read.{Parsed, parsed, refused}
@@ -20,7 +20,7 @@ use Rattle.list_distinct.specs.declared.Places.the-variants.{Found, Refu
 -- how many segments, how many distinct masks, and of how many words each, or a refusal
 abbrev pub told : Places → Said
 told (Found segments masks words) = ok (segments ∷ masks ∷ words ∷ [])
-told (Refused r) = no (r .number) (r .place)
+told (Refused r) = noBy r
 
 -- a place for each of the 2,047 segments that a list may have, with one to spare
 unfoldable pub parsePlaces : ℕ → ℕ → ℕ → ℕ → List ℕ → Parsed

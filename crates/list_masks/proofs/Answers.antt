@@ -11,7 +11,7 @@ use mir.Val.{Fits}
 use mir.Syntax.{w64}
 use lib.ListN.{length, getD, length-replicate}
 use Rattle.refusal.specs.declared.Refusal.{Refusal}
-use Rattle.refusal.specs.Said.{Said, ok, no, ROOM}
+use Rattle.refusal.specs.Said.{Said, ok, refusalAt, noBy, ROOM}
 use Rattle.buffer.specs.Over.{lay, Put, zeros, padded}
 use Rattle.buffer.proofs.Overs.{lay-zeros}
 use Rattle.list_transitions.specs.declared.Transitions.{Transitions}
@@ -193,7 +193,7 @@ module _ (w a b : List ℕ) {d : List ℕ} (z : d ≡ zeros (length b)) where
   size = ap length z ∙ length-replicate (length b) 0
 
   pub no-room : {ns : List ℕ} → length d < 8192 → ns ≡ zeros (length a) →
-      Matrix (Refused (record { number = ROOM; place = 0 })) (length a) ns (length b) d (parseMasks (length a) (length b) w)
+      Matrix (Refused (refusalAt ROOM 0)) (length a) ns (length b) d (parseMasks (length a) (length b) w)
   unfolding parseMasks counted segmentsIn masksIn
   no-room l s = let h : length b < 8192 = omega (arith, size) in rw (lt-ltb (length b) 8192 h) (record { says = refl; low-high = s; leaves = z })
 
@@ -233,7 +233,7 @@ pub ruleset answering = (needs, length-replicate, no-room, ready, matrix-found, 
 
 abbrev back : Said → Masks
 back (ok l) = Count (getD l 0 0) (getD l 1 0)
-back (no n p) = Refused (record { number = n; place = p })
+back (noBy r) = Refused r
 
 back-said : (x : Masks) → back (said x) ≡ x
 back-said (Count masks words) = refl

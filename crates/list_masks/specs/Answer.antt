@@ -6,7 +6,7 @@ use mathlib.Core.List.{List, [], _∷_}
 use mathlib.Core.Bool.{true}
 use lib.ListN.{length}
 use lib.Dec.{ltb}
-use Rattle.refusal.specs.Said.{Said, ok, no, ROOM}
+use Rattle.refusal.specs.Said.{Said, ok, noBy, no, ROOM}
 use Rattle.refusal.specs.Lists.{pick}
 use Rattle.buffer.specs.Over.{zeros, padded}
 use Rattle.list_transitions.specs.Transition.{Transition}
@@ -20,7 +20,7 @@ use Rattle.list_masks.specs.Masks.{wordsFor, matrix, flat, distinctOf}
 -- how many masks, and of how many words each, or a refusal
 abbrev pub said : Masks → Said
 said (Count masks words) = ok (masks ∷ words ∷ [])
-said (Refused r) = no (r .number) (r .place)
+said (Refused r) = noBy r
 
 -- "ROOM comes before the first: segments 4,096 numbers, masks 8,192 64-bit words, distinct masks the same"
 unfoldable pub parseMasks : ℕ → ℕ → List ℕ → Parsed

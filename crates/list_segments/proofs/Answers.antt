@@ -11,7 +11,7 @@ use mir.Syntax.{w64}
 use lib.ListN.{length, getD, take, length-replicate, length-append, length-take}
 use lib.Seq.{take-at}
 use Rattle.refusal.specs.declared.Refusal.{Refusal}
-use Rattle.refusal.specs.Said.{Said, ok, no, ROOM}
+use Rattle.refusal.specs.Said.{Said, ok, refusalAt, noBy, ROOM}
 use Rattle.buffer.specs.Over.{lay, Put, zeros, padded}
 use Rattle.buffer.proofs.Overs.{lay-zeros}
 use Rattle.list_transitions.specs.declared.Transitions.{Transitions}
@@ -177,7 +177,7 @@ module _ (w old : List ℕ) {d : List ℕ} (z : d ≡ zeros (length old)) where
   size : length d ≡ length old
   size = ap length z ∙ length-replicate (length old) 0
 
-  pub no-room : length d < 4096 → Writes (Refused (record { number = ROOM; place = 0 })) (length old) d (parseFor (length old) w)
+  pub no-room : length d < 4096 → Writes (Refused (refusalAt ROOM 0)) (length old) d (parseFor (length old) w)
   unfolding parseFor counted segmentsIn
   no-room l = let h : length old < 4096 = omega (arith, size) in rw (lt-ltb (length old) 4096 h) (record { says = refl; leaves = z })
 
@@ -219,7 +219,7 @@ pub ruleset answering = (needs, length-replicate, no-room, seg-few, seg-room, se
 
 abbrev back : Said → Segments
 back (ok l) = Count (getD l 0 0)
-back (no n p) = Refused (record { number = n; place = p })
+back (noBy r) = Refused r
 
 back-said : (x : Segments) → back (said x) ≡ x
 back-said (Count n) = refl

@@ -4,7 +4,7 @@ use mathlib.Core.Path.{_≡_}
 use mathlib.Core.List.{List, [], _∷_}
 use lib.ListN.{length, take}
 use lib.Dec.{ltb}
-use Rattle.refusal.specs.Said.{Said, ok, no, ROOM}
+use Rattle.refusal.specs.Said.{Said, ok, noBy, no, ROOM}
 use Rattle.refusal.specs.Lists.{pick}
 use Rattle.buffer.specs.Over.{zeros, padded}
 use Rattle.list_transitions.specs.Read.{Parsed, parsed, refused, parse, accepted}
@@ -15,7 +15,7 @@ use Rattle.list_segments.specs.Segments.{cutsOf, starts, segments}
 -- how many there are, or a refusal
 abbrev pub said : Segments → Said
 said (Count n) = ok (n ∷ [])
-said (Refused r) = no (r .number) (r .place)
+said (Refused r) = noBy r
 
 -- "ROOM comes before the first: segments 4,096 numbers"
 unfoldable pub parseFor : ℕ → List ℕ → Parsed

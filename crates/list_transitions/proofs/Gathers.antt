@@ -9,7 +9,7 @@ use borrow.Author.Needs.{needs}
 use borrow.Author.Tests.{lt-ltb, le-ltb}
 use lib.ListN.{length, getD, length-replicate}
 use Rattle.refusal.specs.declared.Refusal.{Refusal}
-use Rattle.refusal.specs.Said.{ROOM}
+use Rattle.refusal.specs.Said.{refusalAt, ROOM}
 use Rattle.buffer.specs.Over.{lay, Put, zeros, padded}
 use Rattle.buffer.proofs.Overs.{lay-zeros}
 use Rattle.buffer.proofs.Going.{Going, going-start, going-done, going-room, going-turn}
@@ -103,7 +103,7 @@ module _ (w old : List ℕ) {d : List ℕ} (z : d ≡ zeros (length old)) where
   size : length d ≡ length old
   size = ap length z ∙ length-replicate (length old) 0
 
-  pub no-room : length d < 2048 → Writes (Refused (record { number = ROOM; place = 0 })) (length old) d (parseInto (length old) w)
+  pub no-room : length d < 2048 → Writes (Refused (refusalAt ROOM 0)) (length old) d (parseInto (length old) w)
   unfolding parseInto counted endsIn
   no-room l = let h : length old < 2048 = omega (arith, size) in rw (lt-ltb (length old) 2048 h) (record { says = refl; leaves = z })
 

@@ -8,7 +8,7 @@ use native.Mathlib.Omega.{arith}
 use borrow.Author.Needs.{needs}
 use borrow.Author.Tests.{le-leb, lt-leb, lt-ltb, le-ltb}
 use lib.ListN.{length, getD}
-use Rattle.refusal.specs.Said.{Said, ok, no, SHORT, FIELD, ORDER, LIMIT}
+use Rattle.refusal.specs.Said.{Said, ok, noBy, no, SHORT, FIELD, ORDER, LIMIT}
 use Rattle.list_transitions.specs.Transition.{Transition, inOrder}
 use Rattle.list_transitions.specs.Intervals.{intervals, total}
 use Rattle.list_transitions.specs.Bytes.{sizeAt, shapeOf, transOf}
@@ -175,7 +175,7 @@ pub ruleset records = (needs, counted-start, rec-bad, rec-full, rec-over, rec-tu
 -- `said` takes no two answers to one: what it says gives the answer back
 abbrev back : Said → Transitions
 back (ok l) = Read (getD l 0 0) (getD l 1 0)
-back (no n p) = Refused (record { number = n; place = p })
+back (noBy r) = Refused r
 
 back-said : (x : Transitions) → back (said x) ≡ x
 back-said (Read count intervals) = refl

@@ -5,7 +5,7 @@ use mathlib.Core.List.{List, [], _∷_}
 use mathlib.Core.Bool.{Bool, true, false}
 use lib.ListN.{length, getD}
 use lib.Dec.{ltb, leb}
-use Rattle.refusal.specs.Said.{Said, ok, no, SHORT, FIELD, LIMIT, ORDER}
+use Rattle.refusal.specs.Said.{Said, ok, noBy, no, SHORT, FIELD, LIMIT, ORDER}
 use Rattle.refusal.specs.Lists.{pick}
 use Rattle.list_transitions.specs.Transition.{Transition, inOrder}
 use Rattle.list_transitions.specs.Intervals.{intervals, total}
@@ -18,7 +18,7 @@ use Rattle.list_transitions.specs.declared.Transitions.the-variants.{Rea
 -- how many transitions and intervals a list has, or a refusal
 abbrev pub said : Transitions → Said
 said (Read count intervals) = ok (count ∷ intervals ∷ [])
-said (Refused r) = no (r .number) (r .place)
+said (Refused r) = noBy r
 
 -- a record: its transition and where the next one starts, or its refusal's number
 pub data Rec : Type 0 where

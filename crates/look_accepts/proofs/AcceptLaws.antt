@@ -4,7 +4,7 @@ use mathlib.Core.Path.{_≡_, refl, sym, ap, _∙_}
 use mathlib.Core.List.{List, [], _∷_}
 use lib.Dec.{eqb}
 use lib.ListN.{getD}
-use Rattle.refusal.specs.Said.{Said, ok, no}
+use Rattle.refusal.specs.Said.{Said, ok, noBy}
 use Rattle.refusal.proofs.Flags.{flag-back}
 use Rattle.look_accepts.specs.declared.AcceptRecord.{AcceptRecord}
 use Rattle.look_accepts.specs.declared.AcceptRecord.the-variants as recorded
@@ -18,7 +18,7 @@ listBack (rule ∷ l) = Record rule (eqb (getD l 0 0) 1) (getD l 1 0)
 
 abbrev recordBack : Said → AcceptRecord
 recordBack (ok l) = listBack l
-recordBack (no n p) = recorded.NotTable
+recordBack (noBy r) = recorded.NotTable
 
 record-back-said : (x : AcceptRecord) → recordBack (of-record.said x) ≡ x
 record-back-said (Record rule flag actions) = rw (flag-back flag)

@@ -10,7 +10,7 @@ use lib.Dec.{ltb, leb}
 use lib.ListN.{length, getD}
 use borrow.Author.Needs.{needs}
 use borrow.Author.Tests.{le-leb, lt-leb, lt-ltb, le-ltb, ltb-true, leb-true}
-use Rattle.refusal.specs.Said.{Said, ok, no}
+use Rattle.refusal.specs.Said.{Said, ok, noBy}
 use Rattle.room_find.specs.declared.Found.{Found}
 use Rattle.room_find.specs.declared.Found.the-variants.{At, Absent, Outside}
 use Rattle.room_find.specs.Room.{listedAt, follow}
@@ -135,7 +135,7 @@ listBack (n ∷ l) = Record n (getD l 0 0)
 
 abbrev back : Said → ContinuationRecord
 back (ok l) = listBack l
-back (no n p) = NotTable
+back (noBy r) = NotTable
 
 back-said : (x : ContinuationRecord) → back (said x) ≡ x
 back-said (Record n m) = refl
@@ -151,7 +151,7 @@ wholeList (p ∷ l) = whole.Spans p (getD l 0 0) (getD l 1 0)
 
 abbrev wholeBack : Said → Whole
 wholeBack (ok l) = wholeList l
-wholeBack (no n p) = whole.Outside
+wholeBack (noBy r) = whole.Outside
 
 whole-back-said : (x : Whole) → wholeBack (wholeSaid x) ≡ x
 whole-back-said (whole.Spans p q z) = refl

@@ -4,7 +4,7 @@ use native.Mathlib.Omega.{arith}
 use mathlib.Core.Path.{_≡_, refl, sym, ap, _∙_}
 use mathlib.Core.List.{List, [], _∷_}
 use lib.ListN.{length, length-replicate}
-use Rattle.refusal.specs.Said.{ok}
+use Rattle.refusal.specs.Said.{ok, refusalAt}
 use Rattle.buffer.specs.declared.Written.the-variants.{Numbers, Refused}
 use Rattle.buffer.specs.Over.{lay, Put, zeros}
 use Rattle.buffer.proofs.Overs.{lay-zeros}
@@ -17,7 +17,7 @@ written l d {r} h z p =
     record { says = ap (λ (k : ℕ). ok (k ∷ [])) n; leaves = p .is ∙ ap (lay 0 l) z ∙ lay-zeros (length d) l h }
 
 -- a refusal, with nothing written
-pub unwritten : (d : List ℕ) {n p : ℕ} → d ≡ zeros (length d) → Writes (Refused (record { number = n; place = p })) (length d) d (refused n p)
+pub unwritten : (d : List ℕ) {n p : ℕ} → d ≡ zeros (length d) → Writes (Refused (refusalAt n p)) (length d) d (refused n p)
 unwritten d z = record { says = refl; leaves = z }
 
 -- The buffer was cleared first

@@ -4,7 +4,7 @@ use Prim.Native.Nat.{ℕ, suc, _-_}
 use mathlib.Core.List.{List, [], _∷_, _++_}
 use lib.Dec.{ltb, leb}
 use lib.ListN.{length, getD}
-use Rattle.refusal.specs.Said.{Said, ok, no, ROOM, NOT-TABLE, ORDER}
+use Rattle.refusal.specs.Said.{Said, ok, noBy, ROOM, NOT-TABLE, ORDER}
 use Rattle.refusal.specs.Lists.{pick}
 use Rattle.look_modes.specs.Start.{compiled}
 use Rattle.look_modes.specs.Modes.{stateCount, modesUpTo, ofModes}
@@ -51,7 +51,7 @@ countsWith w n c = ofModes w (modesUpTo w (limitOf c)) (countsFor n c) (refused 
 -- go on with the number that an answer says
 unfoldable pub asked : Said → (ℕ → Wrote) → Wrote
 asked (ok l) f = f (getD l 0 0)
-asked (no k p) f = refused k p
+asked (noBy r) f = refused (r .number) (r .place)
 
 abbrev pub modeStateCounts : List ℕ → ℕ → Wrote
 modeStateCounts w n = asked (stateCount w) (countsWith w n)

@@ -9,7 +9,7 @@ use mir.Syntax.{w64}
 use mir.Val.{Fits}
 use borrow.Author.Needs.{needs}
 use borrow.Author.Tests.{le-leb, lt-leb, lt-ltb, le-ltb, eq-eqb, ne-eqb}
-use Rattle.refusal.specs.Said.{Said, ok, no}
+use Rattle.refusal.specs.Said.{Said, ok, noBy}
 use Rattle.refusal.proofs.Flags.{flag-back}
 use Rattle.room_find.specs.declared.Found.{Found}
 use Rattle.room_find.specs.declared.Found.the-variants as found
@@ -53,7 +53,7 @@ pub ruleset chain = (needs, there, absent, outside, mode-there, mode-bytes)
 abbrev startBack : Said → Start
 startBack (ok []) = Nowhere
 startBack (ok (s ∷ l)) = At s
-startBack (no n p) = start.NotTable
+startBack (noBy r) = start.NotTable
 
 start-back : (x : Start) → startBack (said x) ≡ x
 start-back (At s) = refl
@@ -65,7 +65,7 @@ said-one x y e = sym (start-back x) ∙ ap startBack e ∙ start-back y
 
 abbrev compiledBack : Said → Compiled
 compiledBack (ok l) = some-are.Modes (eqb (getD l 0 0) 1)
-compiledBack (no n p) = some-are.NotTable
+compiledBack (noBy r) = some-are.NotTable
 
 compiled-back : (x : Compiled) → compiledBack (compiledSaid x) ≡ x
 compiled-back (some-are.Modes b) = rw (flag-back b)
@@ -76,7 +76,7 @@ compiled-said-one x y e = sym (compiled-back x) ∙ ap compiledBack e ∙ compil
 
 abbrev modesBack : Said → Modes
 modesBack (ok l) = Starts (getD l 0 0) (getD l 1 0)
-modesBack (no n p) = Outside
+modesBack (noBy r) = Outside
 
 modes-back : (x : Modes) → modesBack (modesSaid x) ≡ x
 modes-back (Starts at n) = refl

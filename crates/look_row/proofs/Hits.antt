@@ -2,7 +2,7 @@
 use Prim.Native.Nat.{ℕ}
 use mathlib.Core.Path.{_≡_, refl, sym, ap, _∙_}
 use mathlib.Core.List.{List, [], _∷_}
-use Rattle.refusal.specs.Said.{Said, ok, no}
+use Rattle.refusal.specs.Said.{Said, ok, noBy}
 use Rattle.look_row.specs.declared.Hit.{Hit}
 use Rattle.look_row.specs.declared.Hit.the-variants.{Third, Gap, Outside}
 use Rattle.look_row.specs.Search.{said, given}
@@ -28,7 +28,7 @@ listBack (t ∷ l) = Third t
 
 abbrev back : Said → Hit
 back (ok l) = listBack l
-back (no n p) = Outside
+back (noBy r) = Outside
 
 back-said : (x : Hit) → back (said x) ≡ x
 back-said (Third t) = refl

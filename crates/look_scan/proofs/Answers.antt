@@ -4,7 +4,7 @@ use mathlib.Core.Path.{_≡_, refl, sym, ap, _∙_}
 use mathlib.Core.List.{List, [], _∷_}
 use lib.Dec.{eqb}
 use lib.ListN.{getD}
-use Rattle.refusal.specs.Said.{Said, ok, no}
+use Rattle.refusal.specs.Said.{Said, ok, noBy}
 use Rattle.refusal.proofs.Flags.{flag-back}
 use Rattle.look_scan.specs.declared.StateScan.{StateScan}
 use Rattle.look_scan.specs.declared.StateScan.the-variants.{NoRun, Skipped, NoAnswer}
@@ -16,7 +16,7 @@ listBack (n ∷ l) = Skipped n (eqb (getD l 0 0) 1)
 
 abbrev back : Said → StateScan
 back (ok l) = listBack l
-back (no n p) = NoAnswer (record { number = n; place = p })
+back (noBy r) = NoAnswer r
 
 back-said : (x : StateScan) → back (said x) ≡ x
 back-said NoRun = refl

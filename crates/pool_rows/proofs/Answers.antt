@@ -9,7 +9,7 @@ use lib.ListN.{length, getD}
 use borrow.Author.Needs.{needs}
 use borrow.Author.Tests.{lt-ltb, le-ltb, le-leb, lt-leb, eq-eqb, ne-eqb}
 use Rattle.refusal.specs.Lists.{firstEqual}
-use Rattle.refusal.specs.Said.{Said, ok, no, FIELD, ROOM, NOT-TABLE}
+use Rattle.refusal.specs.Said.{Said, ok, noBy, no, FIELD, ROOM, NOT-TABLE}
 use Rattle.refusal.specs.Fixed.{NONE}
 use Rattle.buffer.specs.Over.{Put}
 use Rattle.pool_rows.specs.declared.Interned.{Interned}
@@ -157,7 +157,7 @@ pub ruleset answering-wide = (needs, wide-there, wide-none, wide-fits, wide-outs
 -- `said` takes no two answers to one: what it says gives the answer back
 abbrev back : Said → Interned
 back (ok l) = At (getD l 0 0)
-back (no n p) = Refused (record { number = n; place = p })
+back (noBy r) = Refused r
 
 back-said : (x : Interned) → back (said x) ≡ x
 back-said (At i) = refl

@@ -6,7 +6,7 @@ use mathlib.Core.Bool.{Bool, true, false, _&&_}
 use mathlib.Core.List.{List, [], _∷_}
 use lib.Dec.{ltb, leb, eqb}
 use lib.ListN.{length, getD, take, drop}
-use Rattle.refusal.specs.Said.{Said, ok, no, FIELD, ROOM, NOT-TABLE}
+use Rattle.refusal.specs.Said.{Said, ok, noBy, no, FIELD, ROOM, NOT-TABLE}
 use Rattle.refusal.specs.Lists.{pick, firstEqual}
 use Rattle.refusal.specs.Fixed.{NONE}
 use Rattle.buffer.specs.Over.{lay}
@@ -81,7 +81,7 @@ intern k w n row =
 -- what the call answers: a row's number, or a refusal
 abbrev pub said : Interned → Said
 said (At i) = ok (i ∷ [])
-said (Refused r) = no (r .number) (r .place)
+said (Refused r) = noBy r
 
 abbrev pub outcomeSaid : Outcome → Said
 outcomeSaid (found i) = ok (i ∷ [])

@@ -4,7 +4,7 @@ use Prim.Native.Nat.{ℕ, _/_, _%_}
 use mathlib.Core.List.{List}
 use lib.ListN.{length}
 use lib.Dec.{ltb}
-use Rattle.refusal.specs.Said.{SHORT, LIMIT}
+use Rattle.refusal.specs.Said.{refusalAt, SHORT, LIMIT}
 use Rattle.refusal.specs.Lists.{pick}
 use Rattle.room_decode.specs.declared.Decoded.{Decoded}
 use Rattle.room_decode.specs.declared.Decoded.the-variants.{Refused}
@@ -17,7 +17,7 @@ unfoldable pub wordsIn : List ℕ → List ℕ
 wordsIn bs = numbers 4 (length bs / 4) bs
 
 abbrev pub refused : ℕ → ℕ → Decoded
-refused n p = Refused (record { number = n; place = p })
+refused n p = Refused (refusalAt n p)
 
 -- "1 to 3 spare bytes are SHORT at the whole words, after LIMIT and before decoding"
 unfoldable pub readOf : List ℕ → ℕ → Decoded

@@ -1,3 +1,4 @@
 pub mod Lists
 pub mod Fronts
 pub mod Flags
+pub mod Apart

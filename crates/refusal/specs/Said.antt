@@ -1,10 +1,19 @@
 -- What an answer says, whatever its form in the code: values, or a refusal by number and place (document 01, "Refusals by number").
 use Prim.Native.Nat.{ℕ}
 use mathlib.Core.List.{List}
+use Rattle.refusal.specs.declared.Refusal.{Refusal}
+
+-- the refusal of that number, at that place
+abbrev pub refusalAt : ℕ → ℕ → Refusal
+refusalAt n p = record { number = n; place = p }
 
 pub data Said : Type 0 where
   ok : List ℕ → Said
-  no : ℕ → ℕ → Said
+  noBy : Refusal → Said
+
+-- no answer, but the refusal of that number, at that place
+abbrev pub no : ℕ → ℕ → Said
+no n p = noBy (refusalAt n p)
 
 -- The refusals by number.
 

@@ -5,7 +5,7 @@ use mathlib.Core.Bool.{Bool, false, not}
 use mathlib.Core.List.{List, [], _∷_}
 use lib.Dec.{eqb}
 use lib.ListN.{getD}
-use Rattle.refusal.specs.Said.{Said, ok, no, NOT-TABLE}
+use Rattle.refusal.specs.Said.{Said, ok, noBy, no, NOT-TABLE}
 use Rattle.refusal.specs.Lists.{pick}
 use Rattle.refusal.specs.Fixed.{DEAD-STATE}
 use Rattle.room_find.specs.Room.{ofState}
@@ -18,7 +18,7 @@ lives target = not (eqb target DEAD-STATE)
 
 abbrev pub notDead : Said → Bool
 notDead (ok l) = lives (getD l 0 DEAD-STATE)
-notDead (no n p) = false
+notDead (noBy r) = false
 
 -- the state goes on at a code point
 abbrev pub goesOn : List ℕ → ℕ → ℕ → Bool

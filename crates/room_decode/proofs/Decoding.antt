@@ -6,7 +6,7 @@ use lib.ListN.{length, getD}
 use borrow.Author.Needs.{needs}
 use borrow.Author.Tests.{eq-eqb, ne-eqb}
 use Rattle.refusal.specs.declared.Refusal.{Refusal}
-use Rattle.refusal.specs.Said.{Said, ok, no, INDEX}
+use Rattle.refusal.specs.Said.{Said, ok, refusalAt, noBy, INDEX}
 use Rattle.word_reader.specs.declared.Sections.{Sections}
 use Rattle.word_layout.specs.declared.Layout.{Layout}
 use Rattle.word_layout.specs.declared.Layout.the-variants.{Found, Unfound}
@@ -29,7 +29,7 @@ module _ (w : List ℕ) (n : ℕ) {got : Layout} where
     unfolding keptFrom
     obeyed-room b z h = h ∙ (rw (← g, i, ← b, eq-eqb _ 0 z))
 
-    pub broke : {k : ℕ} → k ≡ broken w s → (k ≡ 0 → ⊥) → Refused (record { number = INDEX; place = k }) ≡ decodeOf w n
+    pub broke : {k : ℕ} → k ≡ broken w s → (k ≡ 0 → ⊥) → Refused (refusalAt INDEX k) ≡ decodeOf w n
     unfolding decodedFrom judged
     broke b z = rw (← g, i, ← b, ne-eqb _ 0 z)
 
@@ -52,7 +52,7 @@ pub ruleset decoding = (needs, obeyed, obeyed-room, broke, broke-room, halts, ha
 -- `said` takes no two answers to one: what it says gives the answer back
 abbrev back : Said → Decoded
 back (ok l) = Table (getD l 0 0) (getD l 1 0) (getD l 2 0)
-back (no n p) = Refused (record { number = n; place = p })
+back (noBy r) = Refused r
 
 back-said : (x : Decoded) → back (said x) ≡ x
 back-said (Table m s w) = refl

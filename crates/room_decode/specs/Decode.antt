@@ -4,7 +4,7 @@ use Prim.Native.Nat.{ℕ}
 use mathlib.Core.List.{List, [], _∷_}
 use lib.ListN.{length, getD}
 use lib.Dec.{eqb}
-use Rattle.refusal.specs.Said.{Said, ok, no, INDEX}
+use Rattle.refusal.specs.Said.{Said, ok, refusalAt, noBy, INDEX}
 use Rattle.refusal.specs.Lists.{pick}
 use Rattle.word_reader.specs.declared.Sections.{Sections}
 use Rattle.word_layout.specs.declared.Layout.{Layout}
@@ -19,11 +19,11 @@ use Rattle.room_decode.specs.declared.Decoded.the-variants.{Table, Refus
 -- the number of modes, of states and of words, or a refusal
 abbrev pub said : Decoded → Said
 said (Table modes states words) = ok (modes ∷ states ∷ words ∷ [])
-said (Refused r) = no (r .number) (r .place)
+said (Refused r) = noBy r
 
 -- "INDEX | an index rule is broken | rule number": k is the first that is broken, or 0
 unfoldable pub judged : List ℕ → Sections → ℕ → Decoded
-judged w s k = pick (eqb k 0) (Table (getD w (s .modes) 0) (getD w (s .states) 0) (length w)) (Refused (record { number = INDEX; place = k }))
+judged w s k = pick (eqb k 0) (Table (getD w (s .modes) 0) (getD w (s .states) 0) (length w)) (Refused (refusalAt INDEX k))
 
 -- the words, once their sections are found
 unfoldable pub decodedFrom : List ℕ → Layout → Decoded

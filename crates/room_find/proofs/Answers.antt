@@ -2,7 +2,7 @@
 use mathlib.Core.Path.{_≡_, refl, sym, ap, _∙_}
 use lib.Dec.{eqb}
 use lib.ListN.{getD}
-use Rattle.refusal.specs.Said.{Said, ok, no, STATE}
+use Rattle.refusal.specs.Said.{Said, ok, noBy, STATE}
 use Rattle.refusal.specs.Lists.{pick}
 use Rattle.room_find.specs.declared.Answer.{Answer}
 use Rattle.room_find.specs.declared.Answer.the-variants.{Number, NoState, NotTable}
@@ -10,7 +10,7 @@ use Rattle.room_find.specs.Answer.{said}
 
 abbrev back : Said → Answer
 back (ok l) = Number (getD l 0 0)
-back (no n p) = pick (eqb n STATE) NoState NotTable
+back (noBy r) = pick (eqb (r .number) STATE) NoState NotTable
 
 back-said : (x : Answer) → back (said x) ≡ x
 back-said (Number n) = refl

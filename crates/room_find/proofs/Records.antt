@@ -12,7 +12,7 @@ use mir.Syntax.{w64}
 use mir.Val.{Fits}
 use borrow.Author.Needs.{needs}
 use borrow.Author.Tests.{le-leb, lt-leb, lt-ltb, le-ltb, ltb-true, leb-true}
-use Rattle.refusal.specs.Said.{Said, ok, no}
+use Rattle.refusal.specs.Said.{Said, ok, noBy}
 use Rattle.refusal.specs.Lists.{pick}
 use Rattle.room_find.specs.declared.Found.{Found}
 use Rattle.room_find.specs.declared.Found.the-variants.{At, Absent, Outside}
@@ -158,7 +158,7 @@ listBack (p ∷ l) = At p
 
 abbrev back : Said → Found
 back (ok l) = listBack l
-back (no n p) = Outside
+back (noBy r) = Outside
 
 back-said : (x : Found) → back (said x) ≡ x
 back-said (At p) = refl

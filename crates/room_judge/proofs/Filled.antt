@@ -9,7 +9,7 @@ use borrow.Author.Tests.{lt-ltb, le-ltb, eq-eqb, ne-eqb}
 use lib.Dec.{eqb}
 use lib.ListN.{length, getD, take, drop, length-take, length-drop}
 use Rattle.refusal.specs.declared.Refusal.{Refusal}
-use Rattle.refusal.specs.Said.{NOT-TABLE, LIMIT, ROOM, INDEX}
+use Rattle.refusal.specs.Said.{refusalAt, NOT-TABLE, LIMIT, ROOM, INDEX}
 use Rattle.refusal.proofs.Lists.{and-split, same-equal, equal-same}
 use Rattle.refusal.specs.Lists.{pick, sameList}
 use Rattle.refusal.specs.Header.{WORD-COUNT, MODES-START, WIDE-START, HEADER-NUMBERS, wordCount}
@@ -155,7 +155,7 @@ module _ (w d : List ℕ) where
         rw (← (p .is), laid-is w d (p .is) (p .limit) (p .room), f, i) (go (eqb (broken w s) 0))
       where
         go : (t : Bool) → pick
-            (accepted (pick t (Table (getD w (s .modes) 0) (getD w (s .states) 0) (length w)) (decoded.Refused (record { number = INDEX; place = broken w s })))
+            (accepted (pick t (Table (getD w (s .modes) 0) (getD w (s .states) 0) (length w)) (decoded.Refused (refusalAt INDEX (broken w s))))
             && sameList (pick t (padded (length d) (numbers w s)) (zeros (length d))) d) (Found s) notTable
             ≡ pick (t && sameList (padded (length d) (numbers w s)) d) (Found s) notTable
         go true = refl
@@ -180,14 +180,14 @@ module _ (d : List ℕ) {n : Layout} where
   -- too short a room, or too many words
   pub too-short : length d < 16384 → n ≡ notTable → n ≡ tableIn d
   unfolding laidOut
-  too-short h = refused-is {o = record { number = ROOM; place = 0 }} (rw (lt-ltb (length d) 16384 h))
+  too-short h = refused-is {o = refusalAt ROOM 0} (rw (lt-ltb (length d) 16384 h))
 
   pub too-many : (k : ℕ) → k ≡ wordCount d → 16384 ≤ length d → 8192 < k → n ≡ notTable → n ≡ tableIn d
   unfolding laidOut wordsPart
   too-many k e h l =
       let i = length-take (wordCount d) (drop HEADER-NUMBERS d) in
       let j : 8192 < length (take (wordCount d) (drop HEADER-NUMBERS d)) = omega (arith, i, length-drop HEADER-NUMBERS d) in
-      refused-is {o = record { number = LIMIT; place = 8192 }}
+      refused-is {o = refusalAt LIMIT 8192}
       (rw (le-ltb (length d) 16384 h, lt-ltb 8192 (length (take (wordCount d) (drop HEADER-NUMBERS d))) j))
 
 -- the words, as `&room[9..9 + count]` reads them

@@ -10,7 +10,7 @@ use borrow.Author.Tests.{eqb-true, ne-eqb, lt-ltb, le-ltb, ltb-false}
 use lib.Dec.{eqb, ltb}
 use lib.ListN.{length}
 use Rattle.refusal.specs.declared.Refusal.{Refusal}
-use Rattle.refusal.specs.Said.{ROOM}
+use Rattle.refusal.specs.Said.{refusalAt, ROOM}
 use Rattle.refusal.specs.Lists.{pick}
 use Rattle.buffer.specs.Over.{zeros}
 use Rattle.list_transitions.specs.Transition.{Transition}
@@ -136,7 +136,7 @@ module _ (t c : ℕ) (short : Bool) {s n d p : ℕ} {ns ms ds ps : List ℕ} whe
           }
 
       pub asked-none : {ns′ ms′ ds′ : List ℕ} → (j ≡ 0 → ⊥) → Zeroed ns ns′ ms ms′ ds ds′ → length ns ≡ s → length ms ≡ n → length ds ≡ d →
-          Asked t c short (Refused (record { number = j; place = 0 })) s ns′ n ms′ d ds′ p ps y
+          Asked t c short (Refused (refusalAt j 0)) s ns′ n ms′ d ds′ p ps y
       unfolding foundIn segmentsIn masksIn
       asked-none o z l l′ l″ =
           let none : withRows t c short y ≡ refused j 0 = rows-by y (said-as i) e ∙ by-some j y o in

@@ -8,7 +8,7 @@ use borrow.Author.Needs.{needs}
 use lib.Dec.{eqb}
 use lib.ListN.{length, getD, length-append, length-replicate, List·getD-eq-default}
 use Rattle.refusal.specs.declared.Refusal.{Refusal}
-use Rattle.refusal.specs.Said.{Said, ok, no}
+use Rattle.refusal.specs.Said.{Said, ok, noBy}
 use Rattle.refusal.specs.Lists.{pick}
 use Rattle.refusal.specs.Fixed.{NONE, DEAD-STATE}
 use Rattle.law_tables.proofs.Codec.{At, start, on, at-head}
@@ -346,7 +346,7 @@ pub ruleset building = (needs, build-refused, build-ready, build-done)
 
 abbrev back : Said → Rows
 back (ok l) = Built (getD l 0 0) (getD l 1 0)
-back (no n p) = Refused (record { number = n; place = p })
+back (noBy r) = Refused r
 
 back-said : (x : Rows) → back (said x) ≡ x
 back-said (Built wide escape) = refl

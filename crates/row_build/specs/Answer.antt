@@ -6,7 +6,7 @@ use mathlib.Core.Bool.{Bool, _||_}
 use mathlib.Core.List.{List, [], _∷_}
 use lib.ListN.{length}
 use lib.Dec.{ltb, eqb}
-use Rattle.refusal.specs.Said.{Said, ok, no}
+use Rattle.refusal.specs.Said.{Said, ok, noBy, no}
 use Rattle.refusal.specs.Lists.{pick}
 use Rattle.buffer.specs.Over.{zeros, padded}
 use Rattle.list_transitions.specs.Read.{Parsed, parsed, refused}
@@ -22,7 +22,7 @@ use Rattle.row_build.specs.declared.Rows.the-variants.{Built, Refused}
 -- how many numbers the wide row and the escape row take, or a refusal
 abbrev pub said : Rows → Said
 said (Built wide escape) = ok (wide ∷ escape ∷ [])
-said (Refused r) = no (r .number) (r .place)
+said (Refused r) = noBy r
 
 -- how many numbers each lent buffer has
 pub record Lent : Type 0 where

@@ -41,9 +41,8 @@ said-one (Class j) (Class k) e = let n : classNumber j ≡ classNumber k = cc in
 said-one (Class j) (Refused s) e = let z : _≡_ {A = ℕ} 0 1 = cc in absurd (omega arith)
 said-one (Refused r) (Class k) e = let z : _≡_ {A = ℕ} 0 1 = cc in absurd (omega arith)
 said-one (Refused r) (Refused s) e =
-    let n : r .number ≡ s .number = cc in
-    let p : r .place ≡ s .place = cc in
-    λ i. Refused (record { number = n i; place = p i })
+    let z : r ≡ s = cc in
+    ap Refused z
 
 -- What one byte says, by its class.
 

@@ -5,7 +5,7 @@ use mathlib.Core.List.{List, [], _∷_, _++_}
 use lib.Dec.{eqb}
 use lib.ListN.{length, getD}
 use Rattle.refusal.specs.Lists.{pick, some, every}
-use Rattle.refusal.specs.Said.{Said, ok, no, FIELD}
+use Rattle.refusal.specs.Said.{Said, ok, noBy, no, FIELD}
 use Rattle.run_ranges.specs.Ranges.{listed, rangesOfRun}
 use Rattle.run_ranges.specs.declared.AsciiRange.{AsciiRange}
 use Rattle.run_ranges.specs.declared.AsciiRanges.{AsciiRanges}
@@ -52,7 +52,7 @@ classNumber ranges.Other = 3
 -- an answer is a class's number, or a refusal
 abbrev pub said : RangeClass → Said
 said (Class c) = ok (classNumber c ∷ [])
-said (Refused r) = no (r .number) (r .place)
+said (Refused r) = noBy r
 
 -- ranges that are a good list have a class; where there are none, the words are no kind-5 run: "anything else is FIELD", at place 0
 unfoldable pub rangesSaid : AsciiRanges → Said

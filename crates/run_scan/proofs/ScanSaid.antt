@@ -3,7 +3,7 @@ use Prim.Native.Nat.{ℕ}
 use mathlib.Core.Path.{_≡_, refl, ap, sym, _∙_}
 use mathlib.Core.List.{List, [], _∷_}
 use lib.Dec.{eqb}
-use Rattle.refusal.specs.Said.{Said, ok, no}
+use Rattle.refusal.specs.Said.{Said, ok, noBy}
 use Rattle.refusal.proofs.Flags.{flag-back}
 use Rattle.run_shape.specs.declared.Scanned.{Scanned}
 use Rattle.run_shape.specs.declared.Scanned.the-variants.{NoRun, Skipped}
@@ -16,7 +16,7 @@ answerOf (n ∷ b ∷ l) = Skipped (record { bytes = n; «found_exit» = eqb b 1
 
 abbrev back : Said → Scanned
 back (ok l) = answerOf l
-back (no n p) = NoRun
+back (noBy r) = NoRun
 
 back-said : (x : Scanned) → back (said x) ≡ x
 back-said NoRun = refl

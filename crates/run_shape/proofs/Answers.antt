@@ -4,7 +4,7 @@ use mathlib.Core.Path.{_≡_, refl, ap, sym, _∙_}
 use mathlib.Core.List.{List}
 use lib.Dec.{eqb}
 use lib.ListN.{getD}
-use Rattle.refusal.specs.Said.{Said, ok, no}
+use Rattle.refusal.specs.Said.{Said, ok, refusalAt, noBy}
 use Rattle.refusal.specs.Lists.{pick}
 use Rattle.run_ranges.specs.declared.AsciiRanges.{AsciiRanges}
 use Rattle.run_ranges.specs.Ranges.{noRanges}
@@ -21,7 +21,7 @@ gives (run q) e = record { says = rw e refl; beside = rw e refl }
 gives (refused n p) e = record { says = rw e refl; beside = rw e refl }
 
 -- a refusal has no ranges
-pub refuses : (n p : ℕ) {q : AsciiRanges} → q ≡ noRanges → record { answer = Refused (record { number = n; place = p }); ranges = q } ≡ answered (refused n p)
+pub refuses : (n p : ℕ) {q : AsciiRanges} → q ≡ noRanges → record { answer = Refused (refusalAt n p); ranges = q } ≡ answered (refused n p)
 refuses n p e = rw e
 
 -- `said` takes no two answers to one: what it says gives the answer back
@@ -35,7 +35,7 @@ kindBack l =
 
 abbrev back : Said → Answered
 back (ok l) = Ran (kindBack l)
-back (no n p) = Refused (record { number = n; place = p })
+back (noBy r) = Refused r
 
 back-said : (x : Answered) → back (said x) ≡ x
 back-said (Ran None) = refl
@@ -54,4 +54,4 @@ same r e f = rw (← e, ← f)
 
 pub given : {r : RunAnswer} (g : Got) → Gives r g → r ≡ answered g
 given {r} (run q) h = same r (said-one (r .answer) (Ran (q .kind)) (h .says)) (h .beside)
-given {r} (refused n p) h = same r (said-one (r .answer) (Refused (record { number = n; place = p })) (h .says)) (h .beside)
+given {r} (refused n p) h = same r (said-one (r .answer) (Refused (refusalAt n p)) (h .says)) (h .beside)

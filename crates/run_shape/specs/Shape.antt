@@ -2,7 +2,7 @@
 use Prim.Native.Nat.{ℕ}
 use mathlib.Core.List.{List, [], _∷_}
 use mathlib.Core.Path.{_≡_}
-use Rattle.refusal.specs.Said.{Said, ok, no}
+use Rattle.refusal.specs.Said.{Said, ok, refusalAt, noBy, no}
 use Rattle.run_ranges.specs.declared.AsciiRange.{AsciiRange}
 use Rattle.run_ranges.specs.declared.AsciiRanges.{AsciiRanges}
 use Rattle.run_ranges.specs.Ranges.{noRanges, upToFour, listed}
@@ -62,7 +62,7 @@ kindSaid Ranges = ok (5 ∷ [])
 
 abbrev pub said : Answered → Said
 said (Ran k) = kindSaid k
-said (Refused r) = no (r .number) (r .place)
+said (Refused r) = noBy r
 
 abbrev pub gotSaid : Got → Said
 gotSaid (run r) = kindSaid (r .kind)
@@ -75,7 +75,7 @@ gotRanges (refused n p) = noRanges
 -- the answer for what was got
 abbrev pub answered : Got → RunAnswer
 answered (run r) = record { answer = Ran (r .kind); ranges = r .ranges }
-answered (refused n p) = record { answer = Refused (record { number = n; place = p }); ranges = noRanges }
+answered (refused n p) = record { answer = Refused (refusalAt n p); ranges = noRanges }
 
 -- an answer says what was got, with its ranges beside it
 pub record Gives (r : RunAnswer) (g : Got) : Type 0 where

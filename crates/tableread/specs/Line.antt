@@ -1,7 +1,7 @@
 -- What `tableread` prints: document 01, "prints `ok MODES STATES WORDS` or `no NUMBER PLACE`". Assumes nothing.
 use Prim.Native.Nat.{ℕ}
 use mathlib.Core.List.{List, [], _∷_, _++_}
-use Rattle.refusal.specs.Said.{Said, ok, no}
+use Rattle.refusal.specs.Said.{Said, ok, noBy}
 use Rattle.refusal.specs.Lists.{each}
 use Rattle.program_io.specs.Decimal.{number}
 
@@ -16,4 +16,4 @@ lineWith word numbers = word ++ (each spaced numbers ++ (10 ∷ []))
 -- `ok` or `no`, and the numbers of what is said
 unfoldable pub lineOf : Said → List ℕ
 lineOf (ok numbers) = lineWith (111 ∷ 107 ∷ []) numbers
-lineOf (no k place) = lineWith (110 ∷ 111 ∷ []) (k ∷ place ∷ [])
+lineOf (noBy r) = lineWith (110 ∷ 111 ∷ []) (r .number ∷ r .place ∷ [])

@@ -2,7 +2,7 @@
 use Prim.Native.Nat.{ℕ, _+_, _/_, _%_}
 use mathlib.Core.List.{List, [], _∷_, _++_}
 use lib.ListN.{getD}
-use Rattle.refusal.specs.Said.{Said, ok, no}
+use Rattle.refusal.specs.Said.{Said, ok, noBy}
 use Rattle.refusal.specs.Fixed.{NONE, DEAD-STATE}
 use Rattle.refusal.specs.Header.{RUNS-START}
 use Rattle.look_modes.specs.Start.{modeStart}
@@ -30,7 +30,7 @@ recordLine k rule flag actions = t.accept-word ++ (number k ++ (t.rule-word ++ (
 -- of a record that says rule, flag and actions; 0 where it says none
 abbrev pub part : ℕ → Said → ℕ
 part k (ok l) = getD l k 0
-part k (no n p) = 0
+part k (noBy r) = 0
 
 unfoldable pub saidLine : ℕ → Said → List ℕ
 saidLine k g = recordLine k (part 0 g) (part 1 g) (part 2 g)

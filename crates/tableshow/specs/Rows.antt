@@ -4,7 +4,7 @@ use mathlib.Core.List.{List, [], _∷_, _++_}
 use lib.Dec.{ltb, eqb}
 use lib.ListN.{getD}
 use Rattle.refusal.specs.Fixed.{DEAD-STATE}
-use Rattle.refusal.specs.Said.{Said, ok, no}
+use Rattle.refusal.specs.Said.{Said, ok, noBy}
 use Rattle.refusal.specs.Lists.{pick}
 use Rattle.refusal.specs.Header.{WIDE-START, ESCAPES-START}
 use Rattle.room_find.specs.Room.{listedAt, stateAt, follow}
@@ -33,7 +33,7 @@ item p low high kind t = joined (joined (gap p ∷ range low high ∷ []) ∷ ta
 abbrev pub orElse : ℕ → Said → ℕ
 orElse d (ok []) = d
 orElse d (ok (x ∷ xs)) = x
-orElse d (no n p) = d
+orElse d (noBy r) = d
 
 -- the target on a symbol; there is none past 127
 unfoldable pub targetOn : List ℕ → ℕ → ℕ → ℕ

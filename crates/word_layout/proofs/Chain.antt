@@ -7,7 +7,7 @@ use lib.ListN.{length, getD}
 use borrow.Author.Needs.{needs}
 use borrow.Author.Tests.{eq-eqb, ne-eqb, lt-ltb, le-ltb}
 use Rattle.refusal.specs.declared.Refusal.{Refusal}
-use Rattle.refusal.specs.Said.{Said, ok, no, SHORT, TAG}
+use Rattle.refusal.specs.Said.{Said, ok, noBy, SHORT, TAG}
 use Rattle.refusal.specs.Fixed.{tag}
 use Rattle.refusal.specs.Lists.{pick}
 use Rattle.word_reader.specs.declared.Place.{Place}
@@ -83,7 +83,7 @@ back (ok l) = Found (record {
   escapes = getD l 6 0;
   continuations = getD l 7 0;
 })
-back (no n p) = unfound n p
+back (noBy r) = Unfound r
 
 back-said : (x : Layout) → back (said x) ≡ x
 back-said (Found s) = refl

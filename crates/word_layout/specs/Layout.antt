@@ -3,7 +3,7 @@ use Prim.Native.Nat.{ℕ}
 use mathlib.Core.List.{List, [], _∷_}
 use lib.Dec.{eqb, ltb}
 use lib.ListN.{length, getD}
-use Rattle.refusal.specs.Said.{Said, ok, no, SHORT, TAG, LEFT}
+use Rattle.refusal.specs.Said.{Said, ok, refusalAt, noBy, SHORT, TAG, LEFT}
 use Rattle.refusal.specs.Fixed.{tag}
 use Rattle.refusal.specs.Lists.{pick}
 use Rattle.word_reader.specs.declared.Place.{Place}
@@ -17,10 +17,10 @@ use Rattle.word_layout.specs.declared.Layout.the-variants.{Found, Unfoun
 -- the places of the sections' counts, or a refusal
 abbrev pub said : Layout → Said
 said (Found s) = ok (s .modes ∷ s .states ∷ s .runs ∷ s .ascii ∷ s .wide ∷ s .accepts ∷ s .escapes ∷ s .continuations ∷ [])
-said (Unfound r) = no (r .number) (r .place)
+said (Unfound r) = noBy r
 
 abbrev pub unfound : ℕ → ℕ → Layout
-unfound n p = Unfound (record { number = n; place = p })
+unfound n p = Unfound (refusalAt n p)
 
 -- The modes stand behind the tag, and each other section behind the one before it: where reading goes on behind each, or why it does not
 

@@ -12,7 +12,7 @@ use lib.ListN.{length, getD}
 use borrow.Author.Needs.{needs}
 use borrow.Author.Tests.{le-leb, lt-leb, lt-ltb, le-ltb, eq-eqb, ne-eqb, ltb-true}
 use Rattle.refusal.specs.declared.Refusal.{Refusal}
-use Rattle.refusal.specs.Said.{Said, ok, no}
+use Rattle.refusal.specs.Said.{Said, ok, noBy}
 use Rattle.refusal.specs.Lists.{pick}
 use Rattle.word_reader.specs.declared.Place.{Place}
 use Rattle.word_reader.specs.declared.Place.the-variants.{Next, Refused}
@@ -100,7 +100,7 @@ pub ruleset joining = (needs, joins, breaks)
 -- `said` takes no two answers to one: what it says gives the answer back
 abbrev back : Said → Place
 back (ok l) = Next (getD l 0 0)
-back (no n p) = refused n p
+back (noBy r) = Refused r
 
 back-said : (x : Place) → back (said x) ≡ x
 back-said (Next p) = refl

@@ -5,7 +5,7 @@ use mathlib.Core.Bool.{Bool}
 use lib.ListN.{length, getD, take, drop}
 use lib.Dec.{ltb, leb}
 use Rattle.refusal.specs.declared.Refusal.{Refusal}
-use Rattle.refusal.specs.Said.{Said, ok, no, SHORT, FIELD}
+use Rattle.refusal.specs.Said.{Said, ok, refusalAt, noBy, SHORT, FIELD}
 use Rattle.refusal.specs.Lists.{pick}
 use Rattle.word_reader.specs.declared.Place.{Place}
 use Rattle.word_reader.specs.declared.Place.the-variants.{Next, Refused}
@@ -13,10 +13,10 @@ use Rattle.word_reader.specs.declared.Place.the-variants.{Next, Refused}
 -- a place, or a refusal
 abbrev pub said : Place → Said
 said (Next p) = ok (p ∷ [])
-said (Refused r) = no (r .number) (r .place)
+said (Refused r) = noBy r
 
 abbrev pub refused : ℕ → ℕ → Place
-refused n p = Refused (record { number = n; place = p })
+refused n p = Refused (refusalAt n p)
 
 -- the input ended: "SHORT in words returns the word count"
 abbrev pub short : List ℕ → Place

@@ -12,7 +12,7 @@ use mir.Syntax.{w64}
 use mir.Val.{Fits}
 use Rattle.refusal.specs.declared.Refusal.{Refusal}
 use Rattle.refusal.specs.Lists.{pick}
-use Rattle.refusal.specs.Said.{SHORT}
+use Rattle.refusal.specs.Said.{refusalAt, SHORT}
 use Rattle.run_shape.specs.declared.AsciiRun.{AsciiRun}
 use Rattle.run_shape.specs.declared.AsciiRun.the-variants.{None, Any, Until1, Until2, Until3, Ranges}
 use Rattle.run_shape.specs.declared.Answered.the-variants.{Ran, Refused}
@@ -67,7 +67,7 @@ module _ {q : RunAnswer} where
       absurd (omega arith)
   halts at (refused m p) {r} h e =
       let f = given (refused m p) h in
-      let i : r ≡ record { number = m; place = p } = cc in
+      let i : r ≡ refusalAt m p = cc in
       rw i
 
 -- what the reader of a run is left with

@@ -8,7 +8,7 @@ use mathlib.Core.List.{List, [], _∷_}
 use lib.Dec.{ltb, eqb}
 use lib.ListN.{length, getD}
 use borrow.Author.Tests.{eq-eqb, ne-eqb, ltb-true, ltb-false}
-use Rattle.refusal.specs.Said.{Said, ok, no, SHORT}
+use Rattle.refusal.specs.Said.{Said, ok, noBy, no, SHORT}
 use Rattle.refusal.specs.Fixed.{tag}
 use Rattle.word_reader.specs.Parse.{andThen, word, section}
 use Rattle.word_layout.specs.Layout.{said, closed, layoutOf}
@@ -16,7 +16,7 @@ use Rattle.word_serialized.specs.Opened.{openingSaid, counted, opened, o
 
 abbrev pub Agrees : List ℕ → Said → Said → Type 0
 Agrees w (ok l) sections = l ≡ getD w 1 0 ∷ []
-Agrees w (no n p) sections = sections ≡ no n p
+Agrees w (noBy r) sections = sections ≡ noBy r
 
 pub opening-agrees : (w : List ℕ) → Agrees w (openingSaid (openingOf w)) (said (layoutOf w))
 unfolding opened counted layoutOf closed andThen section word

@@ -1,7 +1,7 @@
 -- `wordSaid` takes no two answers to one: what it says gives the answer back. Assumes nothing.
 use mathlib.Core.Path.{_≡_, refl, sym, ap, _∙_}
 use mathlib.Core.List.{[], _∷_}
-use Rattle.refusal.specs.Said.{Said, ok, no}
+use Rattle.refusal.specs.Said.{Said, ok, noBy}
 use Rattle.word_serialized.specs.declared.Word.{Word}
 use Rattle.word_serialized.specs.declared.Word.the-variants.{Value, End}
 use Rattle.word_serialized.specs.Reader.{wordSaid}
@@ -9,7 +9,7 @@ use Rattle.word_serialized.specs.Reader.{wordSaid}
 abbrev back : Said → Word
 back (ok []) = End
 back (ok (x ∷ l)) = Value x
-back (no n p) = End
+back (noBy r) = End
 
 back-said : (x : Word) → back (wordSaid x) ≡ x
 back-said (Value x) = refl

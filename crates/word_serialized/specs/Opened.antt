@@ -3,7 +3,7 @@ use Prim.Native.Nat.{ℕ}
 use mathlib.Core.List.{List, [], _∷_}
 use lib.ListN.{length}
 use lib.Dec.{eqb}
-use Rattle.refusal.specs.Said.{Said, ok, no, SHORT, TAG}
+use Rattle.refusal.specs.Said.{Said, ok, refusalAt, noBy, SHORT, TAG}
 use Rattle.refusal.specs.Fixed.{tag}
 use Rattle.refusal.specs.Lists.{pick}
 use Rattle.word_serialized.specs.declared.Word.{Word}
@@ -15,10 +15,10 @@ use Rattle.word_serialized.specs.declared.Opening.the-variants.{Modes, R
 -- how many modes, or a refusal
 abbrev pub openingSaid : Opening → Said
 openingSaid (Modes n) = ok (n ∷ [])
-openingSaid (Refused r) = no (r .number) (r .place)
+openingSaid (Refused r) = noBy r
 
 abbrev pub refused : ℕ → ℕ → Opening
-refused n p = Refused (record { number = n; place = p })
+refused n p = Refused (refusalAt n p)
 
 -- the count of the modes; "SHORT in words returns the word count", which is n
 unfoldable pub counted : Word → ℕ → Opening
