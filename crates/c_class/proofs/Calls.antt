@@ -13,10 +13,11 @@ use Rattle.c_class.specs.Answers.{classInC}
 -- a class's number, or its refusal
 module _ {a : RangeClass} (s : Said) where
   pub class-number : {c : AsciiRangeClass} {n : ℕ} → class.said a ≡ s → a ≡ answer.Class c → n ≡ class.classNumber c
-      → record { number = 0; place = 0; class = n } ≡ classInC s
+      → record { number = 0; item = 0; place = 0; class = n } ≡ classInC s
   class-number h e f = rw (← h, e, f)
 
-  pub class-refused : {x : Refusal} → class.said a ≡ s → a ≡ answer.Refused x → record { number = x .number; place = x .place; class = 0 } ≡ classInC s
+  pub class-refused : {x : Refusal} → class.said a ≡ s → a ≡ answer.Refused x
+      → record { number = x .number; item = x .item; place = x .place; class = 0 } ≡ classInC s
   class-refused h e = rw (← h, e)
 
 pub ruleset calling = (needs, class-number, class-refused)

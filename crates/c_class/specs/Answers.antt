@@ -5,5 +5,5 @@ use Rattle.c_class.specs.declared.CClass.{CClass}
 
 -- a class by its number
 abbrev pub classInC : Said → CClass
-classInC (ok l) = record { number = 0; place = 0; class = getD l 0 0 }
-classInC (noBy r) = record { number = r .number; place = r .place; class = 0 }
+classInC (ok l) = record { number = 0; item = 0; place = 0; class = getD l 0 0 }
+classInC (noBy r) = record { number = r .number; item = r .item; place = r .place; class = 0 }

@@ -1,5 +1,5 @@
 // The classes of bytes and of ranges for C and Rust: a slice passes as pointer and length, an answer comes back as a struct.
-// A number of 0 says accepted; else it is document 01's refusal, with its place, and every other field is 0.
+// A number of 0 says accepted; else it is document 01's refusal, with its place and item, and every other field is 0.
 ghost use mathlib.Core.Path.{_≡_};
 ghost use Rattle.run_class.specs.Byte.{byteClass, byteNumber};
 ghost use Rattle.run_class.specs.Class.{classNumber, classSaid};
@@ -12,6 +12,7 @@ use run_class::RangeClass;
 #[repr(C)]
 pub struct CClass {
     pub number: u32,
+    pub item: u32,
     pub place: usize,
     pub class: u32,
 }
@@ -59,11 +60,13 @@ pub extern "C" fn lexer_dfa_class(words: &[u32]) -> CClass
     match answer {
         RangeClass::Class(class) => CClass {
             number: 0,
+            item: 0,
             place: 0,
             class: class_number(class),
         },
         RangeClass::Refused(refusal) => CClass {
             number: refusal.number,
+            item: refusal.item,
             place: refusal.place,
             class: 0,
         },

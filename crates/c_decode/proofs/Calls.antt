@@ -10,10 +10,11 @@ use Rattle.c_decode.specs.Answers.{decodedInC}
 
 -- a table's counts, or its refusal
 module _ {a : Decoded} where
-  pub decoded-table : {m s n : ℕ} → a ≡ Table m s n → record { number = 0; place = 0; modes = m; states = s; words = n } ≡ decodedInC a
+  pub decoded-table : {m s n : ℕ} → a ≡ Table m s n → record { number = 0; item = 0; place = 0; modes = m; states = s; words = n } ≡ decodedInC a
   decoded-table e = rw e
 
-  pub decoded-refused : {r : Refusal} → a ≡ Refused r → record { number = r .number; place = r .place; modes = 0; states = 0; words = 0 } ≡ decodedInC a
+  pub decoded-refused : {r : Refusal} → a ≡ Refused r
+      → record { number = r .number; item = r .item; place = r .place; modes = 0; states = 0; words = 0 } ≡ decodedInC a
   decoded-refused e = rw e
 
   pub decoded-in-c : {r : CDecoded} (x : Decoded) → a ≡ x → r ≡ decodedInC a → r ≡ decodedInC x

@@ -1,5 +1,5 @@
 // Decoding for C and Rust: slices pass as pointer and length, the answer comes back as a struct.
-// A number of 0 says accepted; else it is document 01's refusal, with its place, and every other field is 0.
+// A number of 0 says accepted; else it is document 01's refusal, with its place and item, and every other field is 0.
 ghost use mathlib.Core.Path.{_≡_};
 ghost use lib.ListN.{length};
 ghost use Rattle.room_decode.specs.Decode.{decodeOf, roomOf};
@@ -10,6 +10,7 @@ use room_decode::Decoded;
 #[repr(C)]
 pub struct CDecoded {
     pub number: u32,
+    pub item: u32,
     pub place: usize,
     pub modes: u32,
     pub states: u32,
@@ -26,6 +27,7 @@ fn decoded_in_c(decoded: Decoded) -> CDecoded
             words,
         } => CDecoded {
             number: 0,
+            item: 0,
             place: 0,
             modes,
             states,
@@ -33,6 +35,7 @@ fn decoded_in_c(decoded: Decoded) -> CDecoded
         },
         Decoded::Refused(refusal) => CDecoded {
             number: refusal.number,
+            item: refusal.item,
             place: refusal.place,
             modes: 0,
             states: 0,

@@ -13,10 +13,11 @@ use Rattle.c_masks.specs.Answers.{masksInC, MatrixInC, DistinctInC}
 
 -- each case of an answer, in C
 module _ {a : Masks} where
-  pub masks-count : {n w : ℕ} → a ≡ masked.Count n w → record { number = 0; place = 0; masks = n; words = w } ≡ masksInC (masking.said a)
+  pub masks-count : {n w : ℕ} → a ≡ masked.Count n w → record { number = 0; item = 0; place = 0; masks = n; words = w } ≡ masksInC (masking.said a)
   masks-count e = rw e
 
-  pub masks-refused : {r : Refusal} → a ≡ masked.Refused r → record { number = r .number; place = r .place; masks = 0; words = 0 } ≡ masksInC (masking.said a)
+  pub masks-refused : {r : Refusal} → a ≡ masked.Refused r
+      → record { number = r .number; item = r .item; place = r .place; masks = 0; words = 0 } ≡ masksInC (masking.said a)
   masks-refused e = rw e
 
 -- the answer says what the call's contract has it say, and the buffers hold what it leaves there

@@ -13,8 +13,8 @@ use Rattle.c_masks.specs.declared.CMasks.{CMasks}
 
 -- how many masks, and of how many words each
 abbrev pub masksInC : Said → CMasks
-masksInC (ok l) = record { number = 0; place = 0; masks = getD l 0 0; words = getD l 1 0 }
-masksInC (noBy r) = record { number = r .number; place = r .place; masks = 0; words = 0 }
+masksInC (ok l) = record { number = 0; item = 0; place = 0; masks = getD l 0 0; words = getD l 1 0 }
+masksInC (noBy r) = record { number = r .number; item = r .item; place = r .place; masks = 0; words = 0 }
 
 -- the answer says it, and the buffers hold it: the segments, and a mask for each ..
 pub record MatrixInC (r : CMasks) (s : ℕ) (segments : List ℕ) (n : ℕ) (masks : List ℕ) (x : Parsed) : Type 0 where

@@ -1,5 +1,5 @@
 // The masks of a list of transitions, for C and Rust: slices pass as pointer and length, answers come back as structs.
-// A number of 0 says accepted; else it is document 01's refusal, with its place, and every other field is 0.
+// A number of 0 says accepted; else it is document 01's refusal, with its place and item, and every other field is 0.
 ghost use mathlib.Core.Path.{_≡_};
 ghost use lib.ListN.{length};
 ghost use Rattle.list_masks.specs.Answer as masking;
@@ -10,6 +10,7 @@ use list_masks::Masks;
 #[repr(C)]
 pub struct CMasks {
     pub number: u32,
+    pub item: u32,
     pub place: usize,
     pub masks: usize,
     pub words: usize,
@@ -24,12 +25,14 @@ fn masks_in_c(answer: Masks) -> CMasks
             words,
         } => CMasks {
             number: 0,
+            item: 0,
             place: 0,
             masks: count,
             words,
         },
         Masks::Refused(no) => CMasks {
             number: no.number,
+            item: no.item,
             place: no.place,
             masks: 0,
             words: 0,

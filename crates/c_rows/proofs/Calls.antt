@@ -13,10 +13,11 @@ use Rattle.c_rows.specs.Answers.{rowsInC, BuildsInC}
 
 -- each case of the answer, in C
 module _ {a : Rows} where
-  pub rows-built : {w e : ℕ} → a ≡ built.Built w e → record { number = 0; place = 0; wide = w; escape = e } ≡ rowsInC (said a)
+  pub rows-built : {w e : ℕ} → a ≡ built.Built w e → record { number = 0; item = 0; place = 0; wide = w; escape = e } ≡ rowsInC (said a)
   rows-built e = rw e
 
-  pub rows-refused : {r : Refusal} → a ≡ built.Refused r → record { number = r .number; place = r .place; wide = 0; escape = 0 } ≡ rowsInC (said a)
+  pub rows-refused : {r : Refusal} → a ≡ built.Refused r
+      → record { number = r .number; item = r .item; place = r .place; wide = 0; escape = 0 } ≡ rowsInC (said a)
   rows-refused e = rw e
 
 -- in C the answer is what it says, and it says what the call's contract has it say

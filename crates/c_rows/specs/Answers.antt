@@ -14,8 +14,8 @@ use Rattle.c_rows.specs.declared.CRows.{CRows}
 
 -- how many numbers the wide row and the escape row have
 abbrev pub rowsInC : Said → CRows
-rowsInC (ok l) = record { number = 0; place = 0; wide = getD l 0 0; escape = getD l 1 0 }
-rowsInC (noBy r) = record { number = r .number; place = r .place; wide = 0; escape = 0 }
+rowsInC (ok l) = record { number = 0; item = 0; place = 0; wide = getD l 0 0; escape = getD l 1 0 }
+rowsInC (noBy r) = record { number = r .number; item = r .item; place = r .place; wide = 0; escape = 0 }
 
 -- the answer says it, and the six buffers hold it
 pub record BuildsInC (r : CRows) (l : Lent) (segments masks distinct ascii wide escape : List ℕ) (targets conts : List ℕ) (x : Parsed) : Type 0 where

@@ -1,5 +1,5 @@
 // The building of rows for C and Rust: slices pass as pointer and length, the answer comes back as a struct.
-// A number of 0 says built; else it is document 01's refusal, with its place, and every other field is 0.
+// A number of 0 says built; else it is document 01's refusal, with its place and item, and every other field is 0.
 ghost use mathlib.Core.Path.{_≡_};
 ghost use Rattle.row_build.specs.Answer as building;
 ghost use Rattle.row_build.specs.Answer.{lent, parseRows};
@@ -10,6 +10,7 @@ use row_build::Rows;
 #[repr(C)]
 pub struct CRows {
     pub number: u32,
+    pub item: u32,
     pub place: usize,
     pub wide: usize,
     pub escape: usize,
@@ -21,12 +22,14 @@ fn rows_in_c(rows: Rows) -> CRows
     match rows {
         Rows::Built { wide, escape } => CRows {
             number: 0,
+            item: 0,
             place: 0,
             wide,
             escape,
         },
         Rows::Refused(refusal) => CRows {
             number: refusal.number,
+            item: refusal.item,
             place: refusal.place,
             wide: 0,
             escape: 0,

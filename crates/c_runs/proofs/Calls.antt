@@ -19,7 +19,7 @@ module _ {a : Answered} (q : AsciiRanges) where
   pub words-ran : {k : AsciiRun} {w : RunWords} → w ≡ wordsOfRun k q → a ≡ Ran k → wordsC w ≡ answeredInC a q
   words-ran h e = rw (h, e)
 
-  pub words-refused : {x : Refusal} → a ≡ Refused x → refusedRun (x .number) (x .place) ≡ answeredInC a q
+  pub words-refused : {x : Refusal} → a ≡ Refused x → refusedRun x ≡ answeredInC a q
   words-refused e = rw e
 
 pub run-in-c : {q : RunAnswer} {r : CRun} (g : Got) → Gives q g → r ≡ answeredInC (q .answer) (q .ranges) → r ≡ runInC g

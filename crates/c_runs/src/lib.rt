@@ -1,5 +1,5 @@
 // Runs for C and Rust: slices pass as pointer and length, answers come back as structs.
-// A number of 0 says accepted; else it is document 01's refusal, with its place, and every other field is 0.
+// A number of 0 says accepted; else it is document 01's refusal, with its place and item, and every other field is 0.
 ghost use mathlib.Core.Path.{_≡_};
 ghost use Rattle.run_shape.specs.Classify.{classified};
 ghost use Rattle.run_shape.specs.Words.{readAt};
@@ -13,6 +13,7 @@ use run_shape::RunAnswer;
 #[repr(C)]
 pub struct CRun {
     pub number: u32,
+    pub item: u32,
     pub place: usize,
     pub length: usize,
     pub first: u32,
@@ -30,6 +31,7 @@ fn words_in_c(read: RunAnswer) -> CRun
             let words = run_words::write_serialized(Run { kind, ranges });
             CRun {
                 number: 0,
+                item: 0,
                 place: 0,
                 length: words.length,
                 first: words.first,
@@ -39,6 +41,7 @@ fn words_in_c(read: RunAnswer) -> CRun
         }
         Answered::Refused(refusal) => CRun {
             number: refusal.number,
+            item: refusal.item,
             place: refusal.place,
             length: 0,
             first: 0,

@@ -14,11 +14,11 @@ use Rattle.run_shape.specs.declared.AsciiRunScan.{AsciiRunScan}
 use Rattle.run_shape.specs.declared.Scanned.{Scanned}
 use Rattle.run_shape.specs.declared.Scanned.the-variants.{NoRun, Skipped}
 use Rattle.run_shape.specs.Shape.{shapeOf, Got, run, refused, Gives}
-use Rattle.refusal.specs.Said.{refusalAt}
+use Rattle.refusal.specs.Said.{noBy, refusalAt}
 use Rattle.run_shape.specs.Scan.{bit, said, scanSaid, scannedBy}
 use Rattle.run_shape.proofs.Answers.{given}
 use Rattle.c_scan.specs.declared.CScan.{CScan}
-use Rattle.c_scan.specs.Answers.{scanInC, refusedScan}
+use Rattle.c_scan.specs.Answers.{scanInC}
 
 -- a flag is stored as its number
 byte-is-bit : (b : Bool) → boolByte b ≡ bit b
@@ -27,11 +27,11 @@ byte-is-bit false = refl
 
 -- how far a run went, or that there is none, or a refusal
 module _ {s : Scanned} where
-  pub scan-none : s ≡ NoRun → refusedScan 0 0 ≡ scanInC (said s)
+  pub scan-none : s ≡ NoRun → record { number = 0; item = 0; place = 0; ran = 0; bytes = 0; «found_exit» = 0 } ≡ scanInC (said s)
   scan-none e = rw e
 
   pub scan-skipped : {x : AsciiRunScan} → s ≡ Skipped x
-      → record { number = 0; place = 0; ran = 1; bytes = x .bytes; «found_exit» = boolByte (x .«found_exit») } ≡ scanInC (said s)
+      → record { number = 0; item = 0; place = 0; ran = 1; bytes = x .bytes; «found_exit» = boolByte (x .«found_exit») } ≡ scanInC (said s)
   scan-skipped {x} e = rw (e, byte-is-bit (x .«found_exit»))
 
 module _ (bs : List ℕ) {q : RunAnswer} where
@@ -46,7 +46,7 @@ module _ (bs : List ℕ) {q : RunAnswer} where
       let z : _≡_ {A = ℕ} 0 1 = cc in
       absurd (omega arith)
 
-  pub scan-refused : (g : Got) {x : Refusal} → Gives q g → q .answer ≡ Refused x → refusedScan (x .number) (x .place) ≡ scanInC (scannedBy g bs)
+  pub scan-refused : (g : Got) {x : Refusal} → Gives q g → q .answer ≡ Refused x → scanInC (noBy x) ≡ scanInC (scannedBy g bs)
   scan-refused (run y) h e =
       let j = given (run y) h in
       let z : _≡_ {A = ℕ} 0 1 = cc in

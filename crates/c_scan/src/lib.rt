@@ -1,5 +1,5 @@
 // The scan by a run for C and Rust: slices pass as pointer and length, the answer comes back as a struct.
-// A number of 0 says accepted; else it is document 01's refusal, with its place, and every other field is 0.
+// A number of 0 says accepted; else it is document 01's refusal, with its place and item, and every other field is 0.
 ghost use mathlib.Core.Path.{_≡_};
 ghost use Rattle.run_shape.specs.Scan.{said};
 ghost use Rattle.c_scan.specs.Answers.{scanCall, scanInC};
@@ -12,6 +12,7 @@ use run_shape::Scanned;
 #[repr(C)]
 pub struct CScan {
     pub number: u32,
+    pub item: u32,
     pub place: usize,
     pub ran: u32,
     pub bytes: usize,
@@ -24,6 +25,7 @@ fn said_in_c(scanned: Scanned) -> CScan
     match scanned {
         Scanned::NoRun => CScan {
             number: 0,
+            item: 0,
             place: 0,
             ran: 0,
             bytes: 0,
@@ -31,6 +33,7 @@ fn said_in_c(scanned: Scanned) -> CScan
         },
         Scanned::Skipped(scan) => CScan {
             number: 0,
+            item: 0,
             place: 0,
             ran: 1,
             bytes: scan.bytes,
@@ -53,6 +56,7 @@ pub extern "C" fn lexer_dfa_scan(words: &[u32], input: &[u8]) -> CScan
         }
         Answered::Refused(refusal) => CScan {
             number: refusal.number,
+            item: refusal.item,
             place: refusal.place,
             ran: 0,
             bytes: 0,

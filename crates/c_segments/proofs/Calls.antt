@@ -13,10 +13,10 @@ use Rattle.c_segments.specs.Answers.{segmentsInC}
 
 -- each case of an answer, in C
 module _ {a : Segments} where
-  pub segments-count : {n : ℕ} → a ≡ Count n → record { number = 0; place = 0; segments = n } ≡ segmentsInC (said a)
+  pub segments-count : {n : ℕ} → a ≡ Count n → record { number = 0; item = 0; place = 0; segments = n } ≡ segmentsInC (said a)
   segments-count e = rw e
 
-  pub segments-refused : {r : Refusal} → a ≡ Refused r → record { number = r .number; place = r .place; segments = 0 } ≡ segmentsInC (said a)
+  pub segments-refused : {r : Refusal} → a ≡ Refused r → record { number = r .number; item = r .item; place = r .place; segments = 0 } ≡ segmentsInC (said a)
   segments-refused e = rw e
 
 -- in C an answer is what it says, and it says what the call's contract has it say

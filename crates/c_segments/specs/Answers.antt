@@ -5,5 +5,5 @@ use Rattle.c_segments.specs.declared.CSegments.{CSegments}
 
 -- how many segments
 abbrev pub segmentsInC : Said → CSegments
-segmentsInC (ok l) = record { number = 0; place = 0; segments = getD l 0 0 }
-segmentsInC (noBy r) = record { number = r .number; place = r .place; segments = 0 }
+segmentsInC (ok l) = record { number = 0; item = 0; place = 0; segments = getD l 0 0 }
+segmentsInC (noBy r) = record { number = r .number; item = r .item; place = r .place; segments = 0 }

@@ -1,5 +1,5 @@
 // The segments of a list of transitions, for C and Rust: slices pass as pointer and length, the answer comes back as a struct.
-// A number of 0 says accepted; else it is document 01's refusal, with its place, and the count is 0.
+// A number of 0 says accepted; else it is document 01's refusal, with its place and item, and the count is 0.
 ghost use mathlib.Core.Path.{_≡_};
 ghost use lib.ListN.{length};
 ghost use Rattle.list_segments.specs.Answer as cutting;
@@ -9,6 +9,7 @@ use list_segments::Segments;
 #[repr(C)]
 pub struct CSegments {
     pub number: u32,
+    pub item: u32,
     pub place: usize,
     pub segments: usize,
 }
@@ -19,11 +20,13 @@ fn segments_in_c(answer: Segments) -> CSegments
     match answer {
         Segments::Count(n) => CSegments {
             number: 0,
+            item: 0,
             place: 0,
             segments: n,
         },
         Segments::Refused(refused) => CSegments {
             number: refused.number,
+            item: refused.item,
             place: refused.place,
             segments: 0,
         },

@@ -14,11 +14,11 @@ use Rattle.c_transitions.specs.Answers.{transitionsInC}
 
 -- each case of an answer, in C
 module _ {a : Transitions} where
-  pub transitions-read : {n i : ℕ} → a ≡ Read n i → record { number = 0; place = 0; transitions = n; intervals = i } ≡ transitionsInC (said a)
+  pub transitions-read : {n i : ℕ} → a ≡ Read n i → record { number = 0; item = 0; place = 0; transitions = n; intervals = i } ≡ transitionsInC (said a)
   transitions-read e = rw e
 
   pub transitions-refused : {r : Refusal} → a ≡ Refused r
-      → record { number = r .number; place = r .place; transitions = 0; intervals = 0 } ≡ transitionsInC (said a)
+      → record { number = r .number; item = r .item; place = r .place; transitions = 0; intervals = 0 } ≡ transitionsInC (said a)
   transitions-refused e = rw e
 
 -- in C an answer is what it says, and it says what the call's contract has it say

@@ -5,5 +5,5 @@ use Rattle.c_transitions.specs.declared.CTransitions.{CTransitions}
 
 -- how many transitions and intervals
 abbrev pub transitionsInC : Said → CTransitions
-transitionsInC (ok l) = record { number = 0; place = 0; transitions = getD l 0 0; intervals = getD l 1 0 }
-transitionsInC (noBy r) = record { number = r .number; place = r .place; transitions = 0; intervals = 0 }
+transitionsInC (ok l) = record { number = 0; item = 0; place = 0; transitions = getD l 0 0; intervals = getD l 1 0 }
+transitionsInC (noBy r) = record { number = r .number; item = r .item; place = r .place; transitions = 0; intervals = 0 }

@@ -1,5 +1,5 @@
 // Lists of transitions, for C and Rust: slices pass as pointer and length, answers come back as structs.
-// A number of 0 says accepted; else it is document 01's refusal, with its place, and every other field is 0.
+// A number of 0 says accepted; else it is document 01's refusal, with its place and item, and every other field is 0.
 ghost use mathlib.Core.Path.{_≡_};
 ghost use lib.ListN.{length};
 ghost use Rattle.list_transitions.specs.Read as reading;
@@ -11,6 +11,7 @@ use list_transitions::Transitions;
 #[repr(C)]
 pub struct CTransitions {
     pub number: u32,
+    pub item: u32,
     pub place: usize,
     pub transitions: usize,
     pub intervals: usize,
@@ -22,12 +23,14 @@ fn transitions_in_c(answer: Transitions) -> CTransitions
     match answer {
         Transitions::Read { count, intervals } => CTransitions {
             number: 0,
+            item: 0,
             place: 0,
             transitions: count,
             intervals,
         },
         Transitions::Refused(refusal) => CTransitions {
             number: refusal.number,
+            item: refusal.item,
             place: refusal.place,
             transitions: 0,
             intervals: 0,

@@ -5,5 +5,5 @@ use Rattle.c_value.specs.declared.CWritten.{CWritten}
 
 -- how many numbers were written
 abbrev pub writtenInC : Said → CWritten
-writtenInC (ok l) = record { number = 0; place = 0; length = getD l 0 0 }
-writtenInC (noBy r) = record { number = r .number; place = r .place; length = 0 }
+writtenInC (ok l) = record { number = 0; item = 0; place = 0; length = getD l 0 0 }
+writtenInC (noBy r) = record { number = r .number; item = r .item; place = r .place; length = 0 }

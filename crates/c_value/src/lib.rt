@@ -33,10 +33,11 @@ pub fn value_in_c(answer: Answer) -> CValue
     }
 }
 
-// How many numbers were written. A number of 0 says accepted; else it is document 01's refusal, with its place, and the length is 0.
+// How many numbers were written. A number of 0 says accepted; else it is document 01's refusal, with its place and item, and the length is 0.
 #[repr(C)]
 pub struct CWritten {
     pub number: u32,
+    pub item: u32,
     pub place: usize,
     pub length: usize,
 }
@@ -48,11 +49,13 @@ pub fn written_in_c(written: Written) -> CWritten
     match written {
         Written::Numbers(n) => CWritten {
             number: 0,
+            item: 0,
             place: 0,
             length: n,
         },
         Written::Refused(refused) => CWritten {
             number: refused.number,
+            item: refused.item,
             place: refused.place,
             length: 0,
         },

@@ -18,15 +18,17 @@ use Rattle.run_shape.specs.declared.RunWords.{RunWords}
 use Rattle.run_shape.specs.Shape.{Shape, none, any, until, ranges, held}
 use Rattle.run_shape.specs.Classify.{exitsFrom, byRanges, byExits, classification}
 use Rattle.word_reader.specs.Records.{runAt}
+use Rattle.word_reader.specs.declared.Place.the-variants.{Next}
 use Rattle.rule_words.specs.Rules as words
 use Rattle.rule_words.specs.Rules.{stands, classifiedWords, runGood, rowNumber}
 use Rattle.law_tables.specs.Table.{Table, State, Fields, All, RunFields, packed, bytes, wordsOf, stateWords, runWords, asciiWords}
 use Rattle.law_tables.specs.Places.{statesPlace, runsPlace, asciiPlace}
-use Rattle.law_tables.specs.Rules.{Good, NoneOr, targets, absent, rowOf, Rule2, Rule3, Rule4}
+use Rattle.law_tables.specs.Rules.{targets, absent, rowOf, ValidState, Classified, Rule2, Rule3, ofNumbered}
 use Rattle.law_tables.proofs.Codec.{At, start, same, on, to, at-head}
 use Rattle.law_tables.proofs.Runs.{list1, list3, ordered-in, shape-reads, held-shape, read-shape, run-codec}
 use Rattle.law_tables.proofs.Placed.{states-stand, runs-stand, ascii-stand, fromRuns, fromAscii, fromWide}
-use Rattle.law_tables.proofs.Judged.{Judges, Handed, said-as, always, both-hold, all-three, le, eq, numbered-handed, walk-judges, at-nth}
+use Rattle.law_tables.proofs.Judged.{Judges, JudgesBy, Handed, said-as, always, both-hold, all-three, le, eq, numbered-handed, walk-judges}
+use Rattle.law_tables.proofs.Judged.{first-found, found-only, not-all, at-nth}
 
 -- The classification of a row is a run that its fields allow
 
@@ -194,8 +196,7 @@ module _ (t : Table) (h : Fields t) (r2 : Rule2 t) where
       at-head (to (s .1) e)
 
   row-there : (i : ℕ) → i < length (t .states) → getD (t .states) i absent .ascii < length (t .ascii)
-  row-there i l = all-nth (λ s. (s .ascii < length (t .ascii)) × (s .wide < length (t .wide)) × Good t (s .eof) × NoneOr (length (t .accepts)) (s .accept))
-      absent (t .states) i l r2 .0
+  row-there i l = all-nth (ValidState t) absent (t .states) i l r2 .0
 
   row-long : (k : ℕ) → k < length (t .ascii) → length (getD (t .ascii) k []) ≡ 64
   row-long k l = all-nth (λ row. length row ≡ 64) [] (t .ascii) k l (h .ascii)
@@ -225,14 +226,28 @@ module _ (t : Table) (h : Fields t) (r2 : Rule2 t) where
       (stands-judges r (classification i (rowOf t i)) (wordsOf t) at post v (classification-fits i (rowOf t i) (state-row-long i l)) a)))
 
   -- a state's number has 16 bits
-  pub rule4-judged : Rule3 t → length (t .states) ≤ 65536 → Judges (words.rule4 (wordsOf t) (statesPlace t) (runsPlace t) (asciiPlace t)) (Rule4 t)
+  pub rule4-judged : Rule3 t → length (t .states) ≤ 65536
+      → JudgesBy (words.rule4 (wordsOf t) (statesPlace t) (runsPlace t) (asciiPlace t)) (words.item4 (wordsOf t) (statesPlace t) (runsPlace t) (asciiPlace t))
+      (ofNumbered (Classified t) (t .runs))
   rule4-judged r3 few =
-      let P : ℕ → Shape → Type 0 = λ i r. r ≡ classification i (rowOf t i) in
+      let w = wordsOf t in
+      let G : ℕ → Shape → Type 0 = λ n r. RunFields r × (n < length (t .states)) in
+      let test = runGood w (statesPlace t) (asciiPlace t) in
+      let judges : (n : ℕ) (r : Shape) (p : ℕ) (q : List ℕ) → G n r → At w p (runWords r ++ q) → Judges (test n p) (Classified t n r)
+      = λ n r p q g b. run-judges n r p q (g .1) (omega (arith, g .1)) (g .0) b in
+      let reads : (n : ℕ) (r : Shape) (p : ℕ) (q : List ℕ) → G n r → At w p (runWords r ++ q) → runAt w p ≡ Next (p + length (runWords r))
+      = λ n r p q g b. run-codec .complete r w p q (g .0) b in
+      let b = on (length (t .runs) ∷ []) (each runWords (t .runs) ++ fromAscii t) (runs-stand t) in
+      let v = counted-up (length (t .states)) 0 (t .runs) (omega arith) (h .runs) in
+      let g = subst (λ T. T) (numbered-handed G 0 (t .runs)) v in
       rw (at-head (runs-stand t))
-      (subst (Judges (words.runsGood (wordsOf t) (statesPlace t) (asciiPlace t) 0 (length (t .runs)) (runsPlace t + 1))) (numbered-handed P 0 (t .runs))
-      (walk-judges runWords (λ n r. RunFields r × (n < length (t .states))) P (λ n r. n + 1) (wordsOf t) (runGood (wordsOf t) (statesPlace t) (asciiPlace t))
-      (λ n p. n + 1) (runAt (wordsOf t))
-      (λ n r p q g b.
-      record { judges = run-judges n r p q (g .1) (omega (arith, g .1)) (g .0) b; hands = refl; reads = run-codec .complete r (wordsOf t) p q (g .0) b })
-      (t .runs) 0 (runsPlace t + 1) (fromAscii t) (counted-up (length (t .states)) 0 (t .runs) (omega arith) (h .runs))
-      (on (length (t .runs) ∷ []) (each runWords (t .runs) ++ fromAscii t) (runs-stand t))))
+      (record {
+        judges = subst (Judges (words.runsGood w (statesPlace t) (asciiPlace t) 0 (length (t .runs)) (runsPlace t + 1)))
+            (numbered-handed (Classified t) 0 (t .runs))
+            (walk-judges runWords G (Classified t) (λ n r. n + 1) w test (λ n p. n + 1) (runAt w)
+            (λ n r p q g b. record { judges = judges n r p q g b; hands = refl; reads = reads n r p q g b })
+            (t .runs) 0 (runsPlace t + 1) (fromAscii t) v b);
+        first = first-found runWords G (Classified t) w test (runAt w) judges reads (t .runs) 0 (runsPlace t + 1) (fromAscii t) g b;
+        only = found-only runWords G (Classified t) w test (runAt w) judges reads (t .runs) 0 (runsPlace t + 1) (fromAscii t) g b;
+        breaks = not-all (Classified t) 0 (t .runs);
+      })

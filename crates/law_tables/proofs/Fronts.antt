@@ -46,7 +46,7 @@ behind-tag : (r : List ℕ) → At (tag ∷ r) 1 r
 behind-tag r = on (tag ∷ []) r (start (tag ∷ r))
 
 -- reading goes on, or is refused
-pub one-way : {x : Place} {n p q : ℕ} → x ≡ refused n p → x ≡ Next q → ⊥
+pub one-way : {x : Place} {r : Refusal} {q : ℕ} → x ≡ Refused r → x ≡ Next q → ⊥
 one-way e f = let z : _≡_ {A = ℕ} 0 1 = cc in omega arith
 
 -- and refused in one way
@@ -200,14 +200,14 @@ alone w p q f h e n i j t = go (leb (q + 3) (p + 1)) refl
 
 -- Every list of words is judged so: it opens with a table, or is refused for one of three reasons
 
-pub data Reason (w : List ℕ) (n p : ℕ) : Type 0 where
-  ends : n ≡ SHORT → p ≡ length w → EndsInside w → Reason w n p
-  differs : n ≡ TAG → p ≡ 0 → Differs w → Reason w n p
-  forbids : n ≡ FIELD → Forbids w p → Reason w n p
+pub data Reason (w : List ℕ) (r : Refusal) : Type 0 where
+  ends : r ≡ refusalAt SHORT (length w) → EndsInside w → Reason w r
+  differs : r ≡ refusalAt TAG 0 → Differs w → Reason w r
+  forbids : r ≡ refusalAt FIELD (r .place) → Forbids w (r .place) → Reason w r
 
 abbrev pub Judged : List ℕ → Place → Type 0
 Judged w (Next p) = Opens w p
-Judged w (Refused r) = Reason w (r .number) (r .place)
+Judged w (Refused r) = Reason w r
 
 module _ (u post : List ℕ) (fit : Fit (u ++ post)) (some : 1 ≤ length u) (b : Begins u) (part : Reader) (d : Due part u) where
   front : take (length u) (u ++ post) ≡ u
@@ -223,11 +223,11 @@ module _ (u post : List ℕ) (fit : Fit (u ++ post)) (some : 1 ≤ length u) (b 
   refuses (over e s) =
       let q = d .refused post _ (s (u ++ post) (length u) (same (stands u post) e)) in
       let o : u ≡ u ++ post = sym (append-nil u) ∙ ap (λ k. u ++ k) (sym e) in
-      subst (Judged (u ++ post)) (sym q) (ends refl refl (inl (subst Unfinished o (not-yet u post q b))))
+      subst (Judged (u ++ post)) (sym q) (ends refl (inl (subst Unfinished o (not-yet u post q b))))
   refuses (inside k h i) =
       let long = length-append u post in
       let q = three-cut (u ++ post) (length u) (omega arith) (omega arith) (three-at k) in
-      subst (Judged (u ++ post)) (sym q) (ends refl refl (inr (length u, omega arith, omega arith, subst Begins (sym front) b, three-at k)))
+      subst (Judged (u ++ post)) (sym q) (ends refl (inr (length u, omega arith, omega arith, subst Begins (sym front) b, three-at k)))
   refuses (fault l more e s f) = subst (Judged (u ++ post)) (sym whole) (forbids refl (some, subst Unfinished (sym front) (not-yet u post whole b), why s))
     where
       long : length (u ++ post) ≡ length u + (length l + length more)
@@ -255,7 +255,7 @@ module _ (u post : List ℕ) (fit : Fit (u ++ post)) (some : 1 ≤ length u) (b 
       why (inr k) = inr (omega (arith, long, k .1), begins-none 3 (k .1), three-at (k .0))
 
 pub judged : (w : List ℕ) → Fit w → Judged w (wholeAt w)
-judged [] f = subst (Judged []) (sym whole-empty) (ends refl refl (inl (not-yet [] [] whole-empty begins-nothing)))
+judged [] f = subst (Judged []) (sym whole-empty) (ends refl (inl (not-yet [] [] whole-empty begins-nothing)))
 judged (x ∷ r) f = tagged (eqb x tag) refl
   where
     ended : Fit (tag ∷ r) → Ends sectionsAt SectionMarks r → Judged (tag ∷ r) (wholeAt (tag ∷ r))
@@ -270,7 +270,7 @@ judged (x ∷ r) f = tagged (eqb x tag) refl
         (refuses (tag ∷ l) post i (omega arith) (completed l n (fit-front (tag ∷ l) post i) m) part (due l part h) (marked (marked-due l) x))
 
     tagged : (b : Bool) → eqb x tag ≡ b → Judged (x ∷ r) (wholeAt (x ∷ r))
-    tagged false u = let n = eqb-false x tag u in subst (Judged (x ∷ r)) (sym (whole-differs x r n)) (differs refl refl (x, r, refl, n))
+    tagged false u = let n = eqb-false x tag u in subst (Judged (x ∷ r)) (sym (whole-differs x r n)) (differs refl (x, r, refl, n))
     tagged true u =
         let e : x ∷ r ≡ tag ∷ r = ap (λ k. k ∷ r) (eqb-true x tag u) in
         subst (λ k. Judged k (wholeAt k)) (sym e) (ended (subst Fit e f) (sections-fronted .ends r (fit-back (x ∷ []) r f)))
@@ -291,8 +291,8 @@ front-short w f (t, more, h, e, n) = go (wholeAt w) (judged w f)
     go (Next p) (u, post, k, o, l) =
         let i = sym (append-assoc (wordsOf u) post more) ∙ ap (λ k. k ++ more) (sym o) ∙ e in
         absurd (omega (arith, only-whole u t (post ++ more) k h i, length-append post more))
-    go (Refused r) (ends i j _) = ap (λ k. refused k (r .place)) i ∙ ap (refused SHORT) j
-    go (Refused r) (differs _ _ (x, post, o, k)) = let i : (x ∷ post) ++ more ≡ wordsOf t = ap (λ k. k ++ more) (sym o) ∙ e in absurd (k (cc))
+    go (Refused r) (ends i _) = ap Refused i
+    go (Refused r) (differs _ (x, post, o, k)) = let i : (x ∷ post) ++ more ≡ wordsOf t = ap (λ k. k ++ more) (sym o) ∙ e in absurd (k (cc))
     go (Refused r) (forbids _ (_, _, inl k)) = absurd (k .1 (begins-take (r .place + 1) w (t, more, h, e)))
     go (Refused r) (forbids _ (_, _, inr k)) = absurd (k .1 (begins-take (r .place + 3) w (t, more, h, e)))
 
@@ -318,14 +318,14 @@ forbids-field w p f (some, (t, more, k, e, m), inl (h, n, single)) = go (wholeAt
         let s = ap (λ n. take n w) (sym j) ∙ ap (take (length (wordsOf v) + (p - q))) o ∙ take-append-add (wordsOf v) post (p - q) in
         let c = sym (append-assoc (wordsOf v) (take (p - q) post) more) ∙ ap (λ l. l ++ more) (sym s) ∙ e in
         absurd (omega (arith, only-whole v t (take (p - q) post ++ more) i k c, length-append (take (p - q) post) more))
-    go (Refused r) (ends _ _ (inl b)) = absurd (n (begins-take (p + 1) w (b .0, b .1, b .2, b .3)))
-    go (Refused r) (ends _ _ (inr (q, i, j, b, x))) = absurd (single q (before q b) (omega arith) x)
-    go (Refused r) (differs _ _ (x, post, o, i)) = absurd (i (first p some (subst (λ l. take p l ++ more ≡ wordsOf t) o e)))
+    go (Refused r) (ends _ (inl b)) = absurd (n (begins-take (p + 1) w (b .0, b .1, b .2, b .3)))
+    go (Refused r) (ends _ (inr (q, i, j, b, x))) = absurd (single q (before q b) (omega arith) x)
+    go (Refused r) (differs _ (x, post, o, i)) = absurd (i (first p some (subst (λ l. take p l ++ more ≡ wordsOf t) o e)))
       where
         first : (p : ℕ) → 1 ≤ p → take p (x ∷ post) ++ more ≡ wordsOf t → x ≡ tag
         first zero h c = absurd (omega arith)
         first (suc p) h c = cc
-    go (Refused r) (forbids i (_, (t, more, k, e, _), why)) = ap (λ k. refused k (r .place)) i ∙ ap (refused FIELD) (exact why)
+    go (Refused r) (forbids i (_, (t, more, k, e, _), why)) = ap Refused i ∙ ap (refused FIELD) (exact why)
       where
         exact : WordForbidden w (r .place) ⊎ ThreeForbidden w (r .place) → r .place ≡ p
         exact (inl g) = omega (arith, before (r .place) (t, more, k, e), here-too (r .place + 1) (g .1))

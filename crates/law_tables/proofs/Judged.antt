@@ -3,7 +3,7 @@
 -- Assumes nothing.
 use mathlib.Core.Path.{_≡_, refl, sym, ap, subst, _∙_}
 use mathlib.Core.List.{List, [], _∷_, _++_, append-assoc}
-use mathlib.Core.Bool.{Bool, true, _&&_, _||_}
+use mathlib.Core.Bool.{Bool, true, false, _&&_, _||_}
 use mathlib.Core.Logic.{_⊎_, inl, inr}
 use Prim.Native.Nat.{ℕ, _+_, _*_, _≤_, _<_, _%_, _/_}
 use native.Mathlib.Nat.{suc-mul, zero-mul}
@@ -14,17 +14,20 @@ use borrow.Author.Tests.{lt-ltb, le-leb, ltb-true, leb-true, eqb-true, eq-eqb}
 use Rattle.refusal.specs.Fixed.{NONE, ESCAPE-STATE, DEAD-STATE}
 use Rattle.word_reader.specs.declared.Place.{Place}
 use Rattle.word_reader.specs.declared.Place.the-variants.{Next}
+use Rattle.word_reader.specs.Records.{stateAt}
 use Rattle.rule_words.specs.Rules as words
-use Rattle.rule_words.specs.Rules.{everyFrom, walk, every, everyIn, sized, good, noneOr, present, follows, nextFrom, searchable, thirds, eachWord, refersBelow}
+use Rattle.rule_words.specs.Rules.{everyFrom, walk, every, everyIn, readOr, passing, passingIn, sized, good, noneOr, present, follows, nextFrom}
+use Rattle.rule_words.specs.Rules.{searchable, thirds, eachWord, refersBelow}
 use Rattle.rule_words.specs.Rules.{below, stateGood, bothGood, wideGood, escapeGood, configGood, continuationWith, continuationGood}
 use Rattle.law_tables.specs.Table.{Table, State, Range, Escape, Context, Config, Continuation, Fields, All, counted, wordsOf, modeWords}
 use Rattle.law_tables.specs.Table.{stateWords, rangeWords, wideWords, escapeWords, contextWords, configWords, continuationWords}
 use Rattle.law_tables.specs.Places.{statesPlace, runsPlace, asciiPlace, widePlace, acceptsPlace, escapesPlace, continuationsPlace}
-use Rattle.law_tables.specs.Rules.{Numbered, NoneOr, Good, Searchable, targets, RefersBelow, Rule1, Rule2, Rule3, Rule5, Rule6, Rule7, Rule8, Rule9}
+use Rattle.law_tables.specs.Rules.{Numbered, FirstNot, NoneOr, Good, Searchable, targets, RefersBelow, ValidState, GoodRow, GoodWide}
+use Rattle.law_tables.specs.Rules.{ValidEscape, ValidContinuation, Rule3, Rule7, Rule, ofEach, ofAll}
 use Rattle.law_tables.proofs.Codec.{At, Codec, same, on, to, at-head, Always}
 use Rattle.law_tables.proofs.Records.{mode, state, ascii, wide-row, escape, config, continuation, all-always, or-split, or-right}
 use Rattle.refusal.proofs.Lists.{and-split}
-use Rattle.refusal.specs.Lists.{each}
+use Rattle.refusal.specs.Lists.{each, pick}
 use Rattle.law_tables.proofs.Placed.{modes-stand, states-stand, runs-stand, ascii-stand, wide-stand, accepts-stand, escapes-stand}
 use Rattle.law_tables.proofs.Placed.{continuations-stand, fromStates, fromRuns, fromWide, fromAccepts, fromContinuations}
 
@@ -36,6 +39,16 @@ pub record Judges (b : Bool) (P : Type 0) : Type 0 where
 
 pub by-equal : {a b : Bool} {P : Type 0} → a ≡ b → Judges b P → Judges a P
 by-equal {P = P} e j = subst (λ x. Judges x P) (sym e) j
+
+pub fails : {P : Type 0} → Judges false P → P → ⊥
+fails j p = let e = j .told p in let z : _≡_ {A = ℕ} 0 1 = cc in omega arith
+
+-- and an item, where it does not
+pub record JudgesBy (b : Bool) (i : ℕ) (R : Rule) : Type 0 where
+  pub judges : Judges b (R .holds)
+  pub first : (R .holds → ⊥) → R .fails i
+  pub only : (j : ℕ) → R .fails j → i ≡ j
+  pub breaks : (j : ℕ) → R .fails j → R .holds → ⊥
 
 -- the same fact, said otherwise
 pub said-as : {b : Bool} {P Q : Type 0} → (P → Q) → (Q → P) → Judges b P → Judges b Q
@@ -126,6 +139,61 @@ module _ {A : Type 0} (f : A → List ℕ) (G P : ℕ → A → Type 0) (next : 
       rw (s .reads, s .hands) in
       both-hold (s .judges) (by-equal e i)
 
+-- how many records pass before the first that does not is the number of the first that does not fit
+module _ {A : Type 0} (f : A → List ℕ) (G P : ℕ → A → Type 0) (w : List ℕ) (test : ℕ → ℕ → Bool) (read : ℕ → Place)
+    (judges : (n : ℕ) (x : A) (at : ℕ) (post : List ℕ) → G n x → At w at (f x ++ post) → Judges (test n at) (P n x))
+    (reads : (n : ℕ) (x : A) (at : ℕ) (post : List ℕ) → G n x → At w at (f x ++ post) → read at ≡ Next (at + length (f x))) where
+  pub first-found : (xs : List A) (n at : ℕ) (post : List ℕ) → Numbered G n xs → At w at (each f xs ++ post) → (Numbered P n xs → ⊥)
+      → FirstNot P n xs (passing test read n (length xs) at)
+  unfolding passing readOr each Numbered FirstNot
+  first-found [] n at post v a not = absurd (not tt)
+  first-found (x ∷ xs) n at post v a not =
+      let b = same a (append-assoc (f x) (each f xs) post) in
+      rw (reads n x at (each f xs ++ post) (v .0) b)
+      (go (test n at) (judges n x at (each f xs ++ post) (v .0) b)
+      (first-found xs (n + 1) (at + length (f x)) post (v .1) (on (f x) (each f xs ++ post) b)))
+    where
+      go : (t : Bool) → Judges t (P n x)
+          → ((Numbered P (n + 1) xs → ⊥) → FirstNot P (n + 1) xs (passing test read (n + 1) (length xs) (at + length (f x))))
+          → FirstNot P n (x ∷ xs) (pick t (passing test read (n + 1) (length xs) (at + length (f x))) n)
+      go true j k = let p = j .says refl in inr (p, k (λ ps. not (p, ps)))
+      go false j k = inl (refl, fails j)
+
+  pub found-only : (xs : List A) (n at : ℕ) (post : List ℕ) → Numbered G n xs → At w at (each f xs ++ post) → (i : ℕ) → FirstNot P n xs i
+      → passing test read n (length xs) at ≡ i
+  unfolding passing readOr each Numbered FirstNot
+  found-only [] n at post v a i e = absurd e
+  found-only (x ∷ xs) n at post v a i e =
+      let b = same a (append-assoc (f x) (each f xs) post) in
+      rw (reads n x at (each f xs ++ post) (v .0) b)
+      (go (test n at) (judges n x at (each f xs ++ post) (v .0) b)
+      (found-only xs (n + 1) (at + length (f x)) post (v .1) (on (f x) (each f xs ++ post) b) i) e)
+    where
+      go : (t : Bool) → Judges t (P n x) → (FirstNot P (n + 1) xs i → passing test read (n + 1) (length xs) (at + length (f x)) ≡ i)
+          → ((n ≡ i) × (P n x → ⊥)) ⊎ (P n x × FirstNot P (n + 1) xs i)
+          → pick t (passing test read (n + 1) (length xs) (at + length (f x))) n ≡ i
+      go true j k (inl (e, not)) = absurd (not (j .says refl))
+      go false j k (inl (e, not)) = e
+      go true j k (inr (p, e)) = k e
+      go false j k (inr (p, e)) = absurd (fails j p)
+
+-- where one does not fit, not all do
+pub not-all : {A : Type 0} (P : ℕ → A → Type 0) (n : ℕ) (xs : List A) (i : ℕ) → FirstNot P n xs i → Numbered P n xs → ⊥
+unfolding FirstNot Numbered
+not-all P n [] i e v = e
+not-all P n (x ∷ xs) i (inl (e, not)) v = not (v .0)
+not-all P n (x ∷ xs) i (inr (p, e)) v = not-all P (n + 1) xs i e (v .1)
+
+all-numbered : {A : Type 0} (P : A → Type 0) (n : ℕ) (xs : List A) → All P xs → Numbered (λ n. P) n xs
+unfolding All Numbered
+all-numbered P n [] v = tt
+all-numbered P n (x ∷ xs) v = (v .0, all-numbered P (n + 1) xs (v .1))
+
+numbered-all : {A : Type 0} (P : A → Type 0) (n : ℕ) (xs : List A) → Numbered (λ n. P) n xs → All P xs
+unfolding All Numbered
+numbered-all P n [] v = tt
+numbered-all P n (x ∷ xs) v = (v .0, numbered-all P (n + 1) xs (v .1))
+
 -- a walk that hands nothing on, over records that `read` reads
 module _ {A : Type 0} (f : A → List ℕ) (G P : A → Type 0) (w : List ℕ) (test : ℕ → Bool) (read : ℕ → Place)
     (judges : (x : A) (at : ℕ) (post : List ℕ) → G x → At w at (f x ++ post) → Judges (test at) (P x))
@@ -146,6 +214,27 @@ module _ {A : Type 0} {r : List ℕ → ℕ → Place} {f : A → List ℕ} {G :
   section-judges xs at post v a =
       by-equal (ap (λ n. walk (λ x p. test p) (λ x p. x) (r w) 0 n (at + 1)) (at-head a))
       (each-judges f G P w test (r w) judges (λ x p q g b. c .complete x w p q g b) xs (at + 1) post v (on (length xs ∷ []) (each f xs ++ post) a))
+
+  -- and the first that does not fit
+  pub section-rule : (xs : List A) (at : ℕ) (post : List ℕ) → All G xs → At w at (counted f xs ++ post)
+      → JudgesBy (everyIn r test w at) (passingIn r (λ i. test) w at) (ofEach P xs)
+  section-rule xs at post v a =
+      let b = on (length xs ∷ []) (each f xs ++ post) a in
+      let g = all-numbered G 0 xs v in
+      record {
+        judges = section-judges xs at post v a;
+        first = λ not. rw (at-head a)
+            (first-found f (λ n. G) (λ n. P) w (λ i. test) (r w) (λ n. judges) (λ n x p q g b. c .complete x w p q g b)
+            xs 0 (at + 1) post g b (λ ps. not (numbered-all P 0 xs ps)));
+        only = λ i e. rw (at-head a)
+            (found-only f (λ n. G) (λ n. P) w (λ i. test) (r w) (λ n. judges) (λ n x p q g b. c .complete x w p q g b)
+            xs 0 (at + 1) post g b i e);
+        breaks = λ i e v. not-all (λ n. P) 0 xs i e (all-numbered P 0 xs v);
+      }
+
+-- a rule of the whole table
+pub whole : {b : Bool} {R : Type 0} → Judges b R → JudgesBy b 0 (ofAll R)
+whole j = record { judges = j; first = λ not. (refl, not); only = λ i e. sym (e .0); breaks = λ i e r. e .1 r }
 
 -- the word k places on
 pub at-nth : {w : List ℕ} {at : ℕ} (front : List ℕ) (x : ℕ) (r : List ℕ) → At w at (front ++ (x ∷ r)) → getD w (at + length front) 0 ≡ x
@@ -311,45 +400,58 @@ continuation-judges w x at post a =
 -- Rules
 
 module _ (t : Table) (h : Fields t) where
-  pub rule1-judged : Judges (words.rule1 (wordsOf t) 1 (statesPlace t)) (Rule1 t)
+  pub rule1-judged : JudgesBy (words.rule1 (wordsOf t) 1 (statesPlace t)) (words.item1 (wordsOf t) 1 (statesPlace t))
+      (ofEach (NoneOr (length (t .states))) (t .modes))
   rule1-judged =
       rw (at-head (states-stand t))
-      (section-judges mode (NoneOr (length (t .states))) (wordsOf t) (λ p. noneOr (length (t .states)) (getD (wordsOf t) p 0))
+      (section-rule mode (NoneOr (length (t .states))) (wordsOf t) (λ p. noneOr (length (t .states)) (getD (wordsOf t) p 0))
       (λ x at post _ a. rw (at-head a) (is-none-or (length (t .states)) x)) (t .modes) 1 (fromStates t) (h .modes) (modes-stand t))
 
-  pub rule2-judged : Judges (words.rule2 (wordsOf t) (statesPlace t) (asciiPlace t) (widePlace t) (acceptsPlace t)) (Rule2 t)
+  pub rule2-judged : JudgesBy (words.rule2 (wordsOf t) (statesPlace t) (asciiPlace t) (widePlace t) (acceptsPlace t))
+      (words.item2 (wordsOf t) (statesPlace t) (asciiPlace t) (widePlace t) (acceptsPlace t))
+      (ofEach (ValidState t) (t .states))
   rule2-judged =
-      rw (at-head (states-stand t), at-head (ascii-stand t), at-head (wide-stand t), at-head (accepts-stand t))
-      (section-judges state _ (wordsOf t) _ (λ x at post _ a. state-judges t (wordsOf t) x at post a) (t .states) (statesPlace t) (fromRuns t)
-      (h .states) (states-stand t))
+      let w = wordsOf t in
+      let good : ℕ → ℕ → Bool = λ count. stateGood count (length (t .ascii)) (length (t .wide)) (length (t .accepts)) w in
+      rw (at-head (ascii-stand t), at-head (wide-stand t), at-head (accepts-stand t))
+      (subst (λ count. JudgesBy (everyIn stateAt (good count) w (statesPlace t))
+      (passingIn stateAt (λ i. good count) w (statesPlace t)) (ofEach (ValidState t) (t .states)))
+      (sym (at-head (states-stand t)))
+      (section-rule state (ValidState t) w (good (length (t .states))) (λ x at post _ a. state-judges t w x at post a) (t .states) (statesPlace t)
+      (fromRuns t) (h .states) (states-stand t)))
 
-  pub rule3-judged : Judges (words.rule3 (wordsOf t) (statesPlace t) (runsPlace t)) (Rule3 t)
-  rule3-judged = rw (at-head (runs-stand t), at-head (states-stand t)) (eq _ _)
+  pub rule3-judged : JudgesBy (words.rule3 (wordsOf t) (statesPlace t) (runsPlace t)) 0 (ofAll (Rule3 t))
+  rule3-judged = rw (at-head (runs-stand t), at-head (states-stand t)) (whole (eq _ _))
 
-  pub rule5-judged : Judges (words.rule5 (wordsOf t) (statesPlace t) (asciiPlace t)) (Rule5 t)
+  pub rule5-judged : JudgesBy (words.rule5 (wordsOf t) (statesPlace t) (asciiPlace t)) (words.item5 (wordsOf t) (statesPlace t) (asciiPlace t))
+      (ofEach (GoodRow t) (t .ascii))
   rule5-judged =
       rw (at-head (states-stand t))
-      (section-judges ascii _ (wordsOf t) _ (λ l at post v a. ascii-judges t (wordsOf t) l at post v a) (t .ascii) (asciiPlace t) (fromWide t)
+      (section-rule ascii _ (wordsOf t) _ (λ l at post v a. ascii-judges t (wordsOf t) l at post v a) (t .ascii) (asciiPlace t) (fromWide t)
       (h .ascii) (ascii-stand t))
 
-  pub rule6-judged : Judges (words.rule6 (wordsOf t) (statesPlace t) (widePlace t)) (Rule6 t)
+  pub rule6-judged : JudgesBy (words.rule6 (wordsOf t) (statesPlace t) (widePlace t)) (words.item6 (wordsOf t) (statesPlace t) (widePlace t))
+      (ofEach (GoodWide t) (t .wide))
   rule6-judged =
       rw (at-head (states-stand t))
-      (section-judges wide-row _ (wordsOf t) _ (λ x at post _ a. wide-judges t (wordsOf t) x at post a) (t .wide) (widePlace t) (fromAccepts t)
+      (section-rule wide-row _ (wordsOf t) _ (λ x at post _ a. wide-judges t (wordsOf t) x at post a) (t .wide) (widePlace t) (fromAccepts t)
       (h .wide) (wide-stand t))
 
-  pub rule7-judged : Judges (words.rule7 (wordsOf t) (statesPlace t) (escapesPlace t)) (Rule7 t)
-  rule7-judged = rw (at-head (escapes-stand t), at-head (states-stand t)) (eq _ _)
+  pub rule7-judged : JudgesBy (words.rule7 (wordsOf t) (statesPlace t) (escapesPlace t)) 0 (ofAll (Rule7 t))
+  rule7-judged = rw (at-head (escapes-stand t), at-head (states-stand t)) (whole (eq _ _))
 
-  pub rule8-judged : Judges (words.rule8 (wordsOf t) (escapesPlace t) (continuationsPlace t)) (Rule8 t)
+  pub rule8-judged : JudgesBy (words.rule8 (wordsOf t) (escapesPlace t) (continuationsPlace t))
+      (words.item8 (wordsOf t) (escapesPlace t) (continuationsPlace t))
+      (ofEach (ValidEscape (length (t .continuations))) (t .escapes))
   rule8-judged =
       rw (at-head (continuations-stand t))
-      (section-judges escape _ (wordsOf t) _ (λ x at post _ a. escape-judges (length (t .continuations)) (wordsOf t) x at post a) (t .escapes)
+      (section-rule escape _ (wordsOf t) _ (λ x at post _ a. escape-judges (length (t .continuations)) (wordsOf t) x at post a) (t .escapes)
       (escapesPlace t) (fromContinuations t)
       (all-always (t .escapes)) (escapes-stand t))
 
-  pub rule9-judged : Judges (words.rule9 (wordsOf t) (continuationsPlace t)) (Rule9 t)
+  pub rule9-judged : JudgesBy (words.rule9 (wordsOf t) (continuationsPlace t)) (words.item9 (wordsOf t) (continuationsPlace t))
+      (ofEach ValidContinuation (t .continuations))
   rule9-judged =
-      section-judges continuation _ (wordsOf t) _ (λ x at post _ a. continuation-judges (wordsOf t) x at post a) (t .continuations)
+      section-rule continuation _ (wordsOf t) _ (λ x at post _ a. continuation-judges (wordsOf t) x at post a) (t .continuations)
       (continuationsPlace t) [] (h .continuations)
       (continuations-stand t)

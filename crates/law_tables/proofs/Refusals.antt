@@ -9,7 +9,8 @@ use native.Mathlib.Omega.{arith}
 use lib.Dec.{ltb}
 use lib.ListN.{length, length-append}
 use borrow.Author.Tests.{ltb-true, ltb-false, lt-ltb, le-ltb}
-use Rattle.refusal.specs.Said.{ok, SHORT, TAG, FIELD, LEFT}
+use Rattle.refusal.specs.declared.Refusal.{Refusal}
+use Rattle.refusal.specs.Said.{ok, refusalAt, SHORT, TAG, FIELD, LEFT}
 use Rattle.refusal.specs.Lists.{pick}
 use Rattle.word_reader.specs.declared.Place.{Place}
 use Rattle.word_reader.specs.declared.Place.the-variants.{Next, Refused}
@@ -32,12 +33,12 @@ opens-inside : (w : List ℕ) (p : ℕ) → Opens w p → p ≤ length w
 opens-inside w p (t, more, h, o, e) = omega (arith, ap length o, length-append (wordsOf t) more)
 
 module _ (w : List ℕ) (f : Fit w) where
-  abbrev Why : ℕ → ℕ → Type 0
-  Why n p = Reason w n p ⊎ ((n ≡ LEFT) × (p < length w) × Opens w p)
+  abbrev Why : Refusal → Type 0
+  Why r = Reason w r ⊎ ((r ≡ refusalAt LEFT (r .place)) × (r .place < length w) × Opens w (r .place))
 
   abbrev Closed : Place → Type 0
   Closed (Next p) = IsTable w
-  Closed (Refused r) = Why (r .number) (r .place)
+  Closed (Refused r) = Why r
 
   closes : (x : Place) → Judged w x → Closed (toLast w x)
   closes (Refused r) j = inl j
@@ -55,17 +56,26 @@ module _ (w : List ℕ) (f : Fit w) where
   Given n p = (n ≡ SHORT → (p ≡ length w) × EndsInside w) × (n ≡ TAG → (p ≡ 0) × Differs w) × (n ≡ FIELD → Forbids w p)
       × (n ≡ LEFT → (p < length w) × Opens w p)
 
-  given : {n p : ℕ} → Why n p → Given n p
-  given (inl (ends i e h)) = (λ _. (e, h), λ j. absurd (omega arith), λ j. absurd (omega arith), λ j. absurd (omega arith))
-  given (inl (differs i e h)) = (λ j. absurd (omega arith), λ _. (e, h), λ j. absurd (omega arith), λ j. absurd (omega arith))
-  given (inl (forbids i h)) = (λ j. absurd (omega arith), λ j. absurd (omega arith), λ _. h, λ j. absurd (omega arith))
-  given (inr (i, h, o)) = (λ j. absurd (omega arith), λ j. absurd (omega arith), λ j. absurd (omega arith), λ _. (h, o))
+  given : {n p : ℕ} → Why (refusalAt n p) → Given n p
+  given {n} (inl (ends i h)) =
+      let k : n ≡ SHORT = ap (λ r. r .number) i in
+      (λ _. (ap (λ r. r .place) i, h), λ j. absurd (omega arith), λ j. absurd (omega arith), λ j. absurd (omega arith))
+  given {n} (inl (differs i h)) =
+      let k : n ≡ TAG = ap (λ r. r .number) i in
+      (λ j. absurd (omega arith), λ _. (ap (λ r. r .place) i, h), λ j. absurd (omega arith), λ j. absurd (omega arith))
+  given {n} (inl (forbids i h)) =
+      let k : n ≡ FIELD = ap (λ r. r .number) i in
+      (λ j. absurd (omega arith), λ j. absurd (omega arith), λ _. h, λ j. absurd (omega arith))
+  given {n} (inr (i, h, o)) =
+      let k : n ≡ LEFT = ap (λ r. r .number) i in
+      (λ j. absurd (omega arith), λ j. absurd (omega arith), λ j. absurd (omega arith), λ _. (h, o))
 
-  numbered : {n p : ℕ} → Why n p → (n ≡ SHORT) ⊎ (n ≡ TAG) ⊎ (n ≡ FIELD) ⊎ (n ≡ LEFT)
-  numbered (inl (ends i _ _)) = inl i
-  numbered (inl (differs i _ _)) = inr (inl i)
-  numbered (inl (forbids i _)) = inr (inr (inl i))
-  numbered (inr (i, _, _)) = inr (inr (inr i))
+  -- no other number is given, and no item
+  numbered : {r : Refusal} → Why r → ((r .number ≡ SHORT) ⊎ (r .number ≡ TAG) ⊎ (r .number ≡ FIELD) ⊎ (r .number ≡ LEFT)) × (r .item ≡ 0)
+  numbered (inl (ends i _)) = (inl (ap (λ r. r .number) i), ap (λ r. r .item) i)
+  numbered (inl (differs i _)) = (inr (inl (ap (λ r. r .number) i)), ap (λ r. r .item) i)
+  numbered (inl (forbids i _)) = (inr (inr (inl (ap (λ r. r .number) i))), ap (λ r. r .item) i)
+  numbered (inr (i, _, _)) = (inr (inr (inr (ap (λ r. r .number) i))), ap (λ r. r .item) i)
 
   found-table : (s : Layout) (l : List ℕ) → layoutOf w ≡ s → said s ≡ ok l → IsTable w
   found-table (Found q) l e h = says _ e

@@ -81,4 +81,6 @@ pub record Refusals (w : List ℕ) : Type 0 where
   pub field : (p : ℕ) → Exactly (layoutOf w ≡ unfound FIELD p) (Forbids w p)
   -- "5 LEFT | words remain"
   pub left : (p : ℕ) → Exactly (layoutOf w ≡ unfound LEFT p) ((p < length w) × Opens w p)
-  pub no-other : (r : Refusal) → layoutOf w ≡ Unfound r → (r .number ≡ SHORT) ⊎ (r .number ≡ TAG) ⊎ (r .number ≡ FIELD) ⊎ (r .number ≡ LEFT)
+  -- no other number, and no item
+  pub no-other : (r : Refusal) → layoutOf w ≡ Unfound r
+      → ((r .number ≡ SHORT) ⊎ (r .number ≡ TAG) ⊎ (r .number ≡ FIELD) ⊎ (r .number ≡ LEFT)) × (r .item ≡ 0)

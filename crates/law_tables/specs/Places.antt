@@ -3,7 +3,7 @@ use Prim.Native.Nat.{ℕ, _+_}
 use mathlib.Core.List.{List}
 use lib.ListN.{length}
 use Rattle.word_reader.specs.declared.Sections.{Sections}
-use Rattle.rule_words.specs.Rules.{broken}
+use Rattle.rule_words.specs.Rules.{broken, brokenItem}
 use Rattle.law_tables.specs.Table.{Table, counted, modeWords, stateWords, runWords, asciiWords, wideWords, acceptWords, escapeWords, wordsOf}
 
 -- where a section that starts at a place ends
@@ -49,3 +49,7 @@ sectionsOf t = record {
 -- the number of the first rule that decoding finds broken in a table's words, or 0
 abbrev pub brokenOf : Table → ℕ
 brokenOf t = broken (wordsOf t) (sectionsOf t)
+
+-- and the first item that breaks it, or 0
+abbrev pub brokenItemOf : Table → ℕ
+brokenItemOf t = brokenItem (wordsOf t) (sectionsOf t)

@@ -10,12 +10,13 @@ use lib.Dec.{ltb, eqb}
 use lib.ListN.{length, getD}
 use borrow.Author.Tests.{ltb-true, ltb-false, lt-ltb, le-ltb, ne-eqb}
 use denote.Ref.{RefT}
-use Rattle.refusal.specs.Said.{Said, ok, noBy, no, SHORT, TAG, FIELD, LIMIT, LEFT, INDEX, ROOM}
+use Rattle.refusal.specs.declared.Refusal.{Refusal}
+use Rattle.refusal.specs.Said.{Said, brokenBy, refusalAt, ok, noBy, no, SHORT, TAG, FIELD, LIMIT, LEFT, INDEX, ROOM}
 use Rattle.refusal.specs.Lists.{pick}
 use Rattle.word_layout.specs.declared.Layout.{Layout}
 use Rattle.word_layout.specs.declared.Layout.the-variants.{Found, Unfound}
 use Rattle.word_layout.specs.Layout.{unfound, layoutOf}
-use Rattle.rule_words.specs.Rules.{broken}
+use Rattle.rule_words.specs.Rules.{broken, brokenItem}
 use Rattle.buffer.specs.Over.{zeros}
 use Rattle.word_layout.specs.Limits.{laidOut}
 use Rattle.room_fill.specs.Room.{roomFor}
@@ -23,12 +24,12 @@ use Rattle.room_decode.specs.declared.Decoded.{Decoded}
 use Rattle.room_decode.specs.Decode.{said, judged, decodedFrom, decodeOf, keptFrom, roomOf}
 use Rattle.law_tables.specs.Table.{Table, wordsOf, Fields}
 use Rattle.law_tables.specs.Whole.{Fit}
-use Rattle.law_tables.specs.Rules.{Rules, FirstOf, FirstBroken}
-use Rattle.law_tables.specs.Places.{sectionsOf, brokenOf}
+use Rattle.law_tables.specs.Rules.{Rules, Rule, FirstOf, FirstBroken}
+use Rattle.law_tables.specs.Places.{sectionsOf, brokenOf, brokenItemOf}
 use Rattle.law_tables.specs.Fronts.{Exactly}
 use Rattle.law_tables.proofs.Codec.{at-head}
 use Rattle.law_tables.proofs.Placed.{modes-stand, states-stand, layout-is, found-table}
-use Rattle.law_tables.proofs.Obeyed.{unbroken-is, broken-is, obeys-accepted}
+use Rattle.law_tables.proofs.Obeyed.{unbroken-is, broken-first, first-broken, obeys-accepted}
 use Rattle.law_tables.proofs.Refusals.{refusals}
 use Rattle.lexer_dfa.specs.Demands.{DecodeAnswers, Accepted, From}
 use Rattle.lexer_dfa.specs.RefusedBy.{WithinLimits, Breaks, RefusedBy}
@@ -52,7 +53,7 @@ module _ (w : List ℕ) (n : ℕ) where
   is-read (h, l) = rw (le-ltb n 16384 h, le-ltb 8192 (length w) l)
 
   -- and what their layout refuses is refused
-  not-laid : {k p : ℕ} → WithinLimits w n → layoutOf w ≡ unfound k p → said (decodeOf w n) ≡ no k p
+  not-laid : {q : Refusal} → WithinLimits w n → layoutOf w ≡ Unfound q → said (decodeOf w n) ≡ noBy q
   unfolding decodedFrom
   not-laid r e = ap (λ s. said (decodedFrom w s)) (is-read r ∙ e)
 
@@ -62,7 +63,7 @@ module _ (t : Table) (h : Fields t) (n : ℕ) (r : WithinLimits (wordsOf t) n) w
   laid : laidOut (wordsOf t) n ≡ Found (sectionsOf t)
   laid = is-read (wordsOf t) n r ∙ layout-is t h
 
-  rules-judge : decodeOf (wordsOf t) n ≡ judged (wordsOf t) (sectionsOf t) (brokenOf t)
+  rules-judge : decodeOf (wordsOf t) n ≡ judged (wordsOf t) (sectionsOf t) (brokenOf t) (brokenItemOf t)
   unfolding decodedFrom
   rules-judge = ap (decodedFrom (wordsOf t)) laid
 
@@ -71,10 +72,10 @@ module _ (t : Table) (h : Fields t) (n : ℕ) (r : WithinLimits (wordsOf t) n) w
   unfolding judged
   obeys o = ap said rules-judge ∙ (rw (obeys-accepted t h (r .1) o .1, at-head (modes-stand t), at-head (states-stand t)))
 
-  -- it breaks one: INDEX gives the first
-  breaks : (k : ℕ) → 0 < k → FirstBroken t k → said (decodeOf (wordsOf t) n) ≡ no INDEX k
+  -- it breaks one: INDEX gives the first, and the first item that breaks it
+  breaks : (k i : ℕ) → 0 < k → FirstBroken t k i → said (decodeOf (wordsOf t) n) ≡ noBy (brokenBy k i)
   unfolding judged
-  breaks k p b = ap said rules-judge ∙ (rw (broken-is t h (r .1) k p .1 b, ne-eqb k 0 (λ z. omega arith)))
+  breaks k i p b = let e = first-broken t h (r .1) k i b in ap said rules-judge ∙ (rw (e .0, e .1, ne-eqb k 0 (λ z. omega arith)))
 
   -- the room of a table that obeys the rules
   obeys-room : Rules t → roomOf (wordsOf t) n ≡ roomFor (wordsOf t) n (Found (sectionsOf t))
@@ -82,25 +83,25 @@ module _ (t : Table) (h : Fields t) (n : ℕ) (r : WithinLimits (wordsOf t) n) w
   obeys-room o = ap (keptFrom (wordsOf t) n) laid ∙ (rw (obeys-accepted t h (r .1) o .1))
 
 -- of rules that are numbered from n on, the first that is broken has no lower number
-first-from : (n : ℕ) {k : ℕ} (Rs : List (Type 0)) → FirstOf n Rs k → n ≤ k
+first-from : (n i : ℕ) {k : ℕ} (Rs : List Rule) → FirstOf n Rs k i → n ≤ k
 unfolding FirstOf
-first-from n [] f = absurd f
-first-from n (R ∷ Rs) (inl f) = omega arith
-first-from n (R ∷ Rs) (inr f) = omega (arith, first-from (n + 1) Rs (f .1))
+first-from n i [] f = absurd f
+first-from n i (R ∷ Rs) (inl f) = omega arith
+first-from n i (R ∷ Rs) (inr f) = omega (arith, first-from (n + 1) i Rs (f .1))
 
 -- Why decode says what it says
 
--- number k is given at p
-data Reason (w : List ℕ) (n k p : ℕ) : Type 0 where
-  narrow : k ≡ ROOM → p ≡ 0 → n < 16384 → Reason w n k p
-  long : k ≡ LIMIT → p ≡ 8192 → 16384 ≤ n → 8192 < length w → Reason w n k p
-  unlaid : WithinLimits w n → layoutOf w ≡ unfound k p → Reason w n k p
-  broken-rule : k ≡ INDEX → WithinLimits w n → Breaks w p → Reason w n k p
+-- this refusal is given
+data Reason (w : List ℕ) (n : ℕ) (r : Refusal) : Type 0 where
+  narrow : r ≡ refusalAt ROOM 0 → n < 16384 → Reason w n r
+  long : r ≡ refusalAt LIMIT 8192 → 16384 ≤ n → 8192 < length w → Reason w n r
+  unlaid : WithinLimits w n → layoutOf w ≡ Unfound r → Reason w n r
+  broken-rule : r ≡ brokenBy (r .place) (r .item) → WithinLimits w n → Breaks w (r .place) (r .item) → Reason w n r
 
 -- of words w and a room of n numbers this is said
 abbrev Why : List ℕ → ℕ → Said → Type 0
 Why w n (ok l) = Accepted w (getD l 0 0) (getD l 1 0) (getD l 2 0)
-Why w n (noBy r) = Reason w n (r .number) (r .place)
+Why w n (noBy r) = Reason w n r
 
 -- the words are a table's
 table-why : (t : Table) → Fields t → (n : ℕ) → WithinLimits (wordsOf t) n → Why (wordsOf t) n (said (decodeOf (wordsOf t) n))
@@ -112,8 +113,8 @@ table-why t h n r = go (brokenOf t) refl
         subst (Why (wordsOf t) n) (sym (obeys t h n r o))
         (record { table = t; limit = r .1; layout = refl; fields = h; rules = o; of-modes = refl; of-states = refl; of-words = refl })
     go (suc k) e =
-        let b = broken-is t h (r .1) (suc k) (omega arith) .0 e in
-        subst (Why (wordsOf t) n) (sym (breaks t h n r (suc k) (omega arith) b)) (broken-rule refl r (t, h, b, refl))
+        let b = broken-first t h (r .1) (suc k) (omega arith) e in
+        subst (Why (wordsOf t) n) (sym (breaks t h n r (suc k) (brokenItemOf t) (omega arith) b)) (broken-rule refl r (t, h, b, refl))
 
 module _ (w : List ℕ) (n : ℕ) (f : Fit w) where
   -- the words are read
@@ -127,57 +128,58 @@ module _ (w : List ℕ) (n : ℕ) (f : Fit w) where
   why = go (ltb n 16384) (ltb 8192 (length w)) refl refl
     where
       go : (a b : Bool) → ltb n 16384 ≡ a → ltb 8192 (length w) ≡ b → Why w n (said (decodeOf w n))
-      go true b i j = let h = ltb-true n 16384 i in subst (Why w n) (sym (no-room w n h)) (narrow refl refl h)
+      go true b i j = let h = ltb-true n 16384 i in subst (Why w n) (sym (no-room w n h)) (narrow refl h)
       go false true i j =
           let h = ltb-false n 16384 i in
           let l = ltb-true 8192 (length w) j in
-          subst (Why w n) (sym (over-limit w n h l)) (long refl refl h l)
+          subst (Why w n) (sym (over-limit w n h l)) (long refl h l)
       go false false i j = read-why (ltb-false n 16384 i, ltb-false 8192 (length w) j) (layoutOf w) refl
 
   -- a refusal has one reason
-  reason : {k p : ℕ} → said (decodeOf w n) ≡ no k p → Reason w n k p
+  reason : {r : Refusal} → said (decodeOf w n) ≡ noBy r → Reason w n r
   reason e = subst (Why w n) e why
 
-  -- the layout gives 1, 2, 3 and 5
-  layout-number : {k p : ℕ} → layoutOf w ≡ unfound k p → From 1 5 k × (k ≡ LIMIT → ⊥)
-  layout-number {k} e = go (refusals w f .no-other _ e)
+  -- the layout gives 1, 2, 3 and 5, and no item
+  layout-number : {r : Refusal} → layoutOf w ≡ Unfound r → From 1 5 (r .number) × (r .number ≡ LIMIT → ⊥) × (r .item ≡ 0)
+  layout-number {r} e = let q = refusals w f .no-other r e in go (q .0) (q .1)
     where
-      go : (k ≡ SHORT) ⊎ (k ≡ TAG) ⊎ (k ≡ FIELD) ⊎ (k ≡ LEFT) → From 1 5 k × (k ≡ LIMIT → ⊥)
-      go (inl i) = ((omega arith, omega arith), λ j. omega arith)
-      go (inr (inl i)) = ((omega arith, omega arith), λ j. omega arith)
-      go (inr (inr (inl i))) = ((omega arith, omega arith), λ j. omega arith)
-      go (inr (inr (inr i))) = ((omega arith, omega arith), λ j. omega arith)
+      go : (r .number ≡ SHORT) ⊎ (r .number ≡ TAG) ⊎ (r .number ≡ FIELD) ⊎ (r .number ≡ LEFT) → r .item ≡ 0
+          → From 1 5 (r .number) × (r .number ≡ LIMIT → ⊥) × (r .item ≡ 0)
+      go (inl i) o = ((omega arith, omega arith), λ j. omega arith, o)
+      go (inr (inl i)) o = ((omega arith, omega arith), λ j. omega arith, o)
+      go (inr (inr (inl i))) o = ((omega arith, omega arith), λ j. omega arith, o)
+      go (inr (inr (inr i))) o = ((omega arith, omega arith), λ j. omega arith, o)
 
   -- each number has its own reason
-  by-layout : {k p : ℕ} → k < 6 → (k ≡ LIMIT → ⊥) → Reason w n k p → WithinLimits w n × (layoutOf w ≡ unfound k p)
-  by-layout l z (narrow i _ _) = absurd (omega arith)
-  by-layout l z (long i _ _ _) = absurd (z i)
+  by-layout : {k p : ℕ} → k < 6 → (k ≡ LIMIT → ⊥) → Reason w n (refusalAt k p) → WithinLimits w n × (layoutOf w ≡ unfound k p)
+  by-layout {k} l z (narrow i _) = let j : k ≡ ROOM = ap (λ r. r .number) i in absurd (omega arith)
+  by-layout l z (long i _ _) = absurd (z (ap (λ r. r .number) i))
   by-layout l z (unlaid r e) = (r, e)
-  by-layout l z (broken-rule i _ _) = absurd (omega arith)
+  by-layout {k} l z (broken-rule i _ _) = let j : k ≡ INDEX = ap (λ r. r .number) i in absurd (omega arith)
 
-  by-room : {p : ℕ} → Reason w n ROOM p → (p ≡ 0) × (n < 16384)
-  by-room (narrow _ e h) = (e, h)
-  by-room (long i _ _ _) = absurd (omega arith)
+  by-room : {p : ℕ} → Reason w n (refusalAt ROOM p) → (p ≡ 0) × (n < 16384)
+  by-room (narrow i h) = (ap (λ r. r .place) i, h)
+  by-room (long i _ _) = let j : ROOM ≡ LIMIT = ap (λ r. r .number) i in absurd (omega arith)
   by-room (unlaid r e) = absurd (omega (arith, layout-number e .0 .1))
-  by-room (broken-rule i _ _) = absurd (omega arith)
+  by-room (broken-rule i _ _) = let j : ROOM ≡ INDEX = ap (λ r. r .number) i in absurd (omega arith)
 
-  by-limit : {p : ℕ} → Reason w n LIMIT p → (p ≡ 8192) × (16384 ≤ n) × (8192 < length w)
-  by-limit (narrow i _ _) = absurd (omega arith)
-  by-limit (long _ e h l) = (e, h, l)
+  by-limit : {p : ℕ} → Reason w n (refusalAt LIMIT p) → (p ≡ 8192) × (16384 ≤ n) × (8192 < length w)
+  by-limit (narrow i _) = let j : LIMIT ≡ ROOM = ap (λ r. r .number) i in absurd (omega arith)
+  by-limit (long i h l) = (ap (λ r. r .place) i, h, l)
   by-limit (unlaid r e) = absurd (layout-number e .1 refl)
-  by-limit (broken-rule i _ _) = absurd (omega arith)
+  by-limit (broken-rule i _ _) = let j : LIMIT ≡ INDEX = ap (λ r. r .number) i in absurd (omega arith)
 
-  by-index : {p : ℕ} → Reason w n INDEX p → WithinLimits w n × Breaks w p
-  by-index (narrow i _ _) = absurd (omega arith)
-  by-index (long i _ _ _) = absurd (omega arith)
+  by-index : {p i : ℕ} → Reason w n (brokenBy p i) → WithinLimits w n × Breaks w p i
+  by-index (narrow i _) = let j : INDEX ≡ ROOM = ap (λ r. r .number) i in absurd (omega arith)
+  by-index (long i _ _) = let j : INDEX ≡ LIMIT = ap (λ r. r .number) i in absurd (omega arith)
   by-index (unlaid r e) = absurd (omega (arith, layout-number e .0 .1))
   by-index (broken-rule _ r b) = (r, b)
 
-  numbered : {k p : ℕ} → Reason w n k p → From 1 7 k
-  numbered (narrow i _ _) = (omega arith, omega arith)
-  numbered (long i _ _ _) = (omega arith, omega arith)
-  numbered (unlaid r e) = let l = layout-number e .0 in (l .0, omega (arith, l .1))
-  numbered (broken-rule i _ _) = (omega arith, omega arith)
+  numbered : {r : Refusal} → Reason w n r → From 1 7 (r .number) × ((r .item ≡ 0) ⊎ (r .number ≡ INDEX))
+  numbered {r} (narrow i _) = let j : r .number ≡ ROOM = ap (λ r. r .number) i in ((omega arith, omega arith), inl (ap (λ r. r .item) i))
+  numbered {r} (long i _ _) = let j : r .number ≡ LIMIT = ap (λ r. r .number) i in ((omega arith, omega arith), inl (ap (λ r. r .item) i))
+  numbered (unlaid r e) = let l = layout-number e in ((l .0 .0, omega (arith, l .0 .1)), inl (l .2))
+  numbered {r} (broken-rule i _ _) = let j : r .number ≡ INDEX = ap (λ r. r .number) i in ((omega arith, omega arith), inr j)
 
   -- what the layout refuses, decode refuses
   lifted : (k p : ℕ) {B : Type 0} → k < 6 → (k ≡ LIMIT → ⊥) → Exactly (layoutOf w ≡ unfound k p) B
@@ -185,8 +187,9 @@ module _ (w : List ℕ) (n : ℕ) (f : Fit w) where
   lifted k p l z x = (λ e. let q = by-layout l z (reason e) in (q .0, x .0 (q .1)), λ h. not-laid w n (h .0) (x .1 (h .1)))
 
   -- words of a table that breaks a rule are refused
-  broke : {p : ℕ} → WithinLimits w n → Breaks w p → said (decodeOf w n) ≡ no INDEX p
-  broke {p} r (t, h, b, o) = subst (λ v. said (decodeOf v n) ≡ no INDEX p) (sym o) (breaks t h n (subst (λ v. WithinLimits v n) o r) p (first-from 1 _ b) b)
+  broke : {p i : ℕ} → WithinLimits w n → Breaks w p i → said (decodeOf w n) ≡ noBy (brokenBy p i)
+  broke {p} {i} r (t, h, b, o) =
+      subst (λ v. said (decodeOf v n) ≡ noBy (brokenBy p i)) (sym o) (breaks t h n (subst (λ v. WithinLimits v n) o r) p i (first-from 1 i _ b) b)
 
   -- the refusals by number
   says-refused : RefusedBy w n (said (decodeOf w n))
@@ -196,9 +199,9 @@ module _ (w : List ℕ) (n : ℕ) (f : Fit w) where
     field = λ p. lifted FIELD p (omega arith) (λ e. omega arith) (refusals w f .field p);
     limit = λ p. (λ e. by-limit (reason e), λ h. over-limit w n (h .1) (h .2) ∙ ap (no LIMIT) (sym (h .0)));
     left = λ p. lifted LEFT p (omega arith) (λ e. omega arith) (refusals w f .left p);
-    index = λ p. (λ e. by-index (reason e), λ h. broke (h .0) (h .1));
+    index = λ p i. (λ e. by-index (reason e), λ h. broke (h .0) (h .1));
     room = λ p. (λ e. by-room (reason e), λ h. no-room w n (h .1) ∙ ap (no ROOM) (sym (h .0)));
-    no-other = λ k p e. numbered (reason e);
+    no-other = λ r e. numbered (reason e);
   }
 
 -- What is accepted, and the room
@@ -222,14 +225,14 @@ module _ (w : List ℕ) (n : ℕ) (enough : 16384 ≤ n) {modes states count : �
       subst (λ v. roomOf v n ≡ roomFor v n (Found (sectionsOf t))) (sym (a .layout)) (obeys-room t (a .fields) n reads (a .rules))
 
 -- where decode refuses, the room holds zeros
-keeps-zeros : (w : List ℕ) (n : ℕ) {k p : ℕ} (s : Layout) → said (decodedFrom w s) ≡ no k p → keptFrom w n s ≡ zeros n
+keeps-zeros : (w : List ℕ) (n : ℕ) {q : Refusal} (s : Layout) → said (decodedFrom w s) ≡ noBy q → keptFrom w n s ≡ zeros n
 unfolding decodedFrom judged keptFrom
 keeps-zeros w n (Unfound r) e = refl
-keeps-zeros w n {k} {p} (Found s) e = go (broken w s) e
+keeps-zeros w n {q} (Found s) e = go (broken w s) e
   where
-    go : (i : ℕ) → said (judged w s i) ≡ no k p → pick (eqb i 0) (roomFor w n (Found s)) (zeros n) ≡ zeros n
+    go : (k : ℕ) → said (judged w s k (brokenItem w s)) ≡ noBy q → pick (eqb k 0) (roomFor w n (Found s)) (zeros n) ≡ zeros n
     go zero h = let z : _≡_ {A = ℕ} 0 1 = cc in absurd (omega arith)
-    go (suc i) h = rw (ne-eqb (suc i) 0 (λ z. omega arith))
+    go (suc k) h = rw (ne-eqb (suc k) 0 (λ z. omega arith))
 
 -- The call, by its own contract. The arguments of a contract carry no bound on a slice's numbers, so that the words have 32 bits, as the type u32
 -- says, is a premise, `Fit`.
@@ -254,8 +257,8 @@ decode-refuses words room f x left a =
 
 -- "Refused: all outputs zero."
 pub refused-zero : (words room : RefT (List ℕ)) (x : Decoded) (left : List ℕ) → DecodeAnswers words room x left →
-    (number p : ℕ) → said x ≡ no number p → left ≡ zeros (length (room .now))
-refused-zero words room x left a number p e =
+    (r : Refusal) → said x ≡ noBy r → left ≡ zeros (length (room .now))
+refused-zero words room x left a r e =
     let w = words .now in
     let n = length (room .now) in
     sym (a .3) ∙ a .2 .1 ∙ keeps-zeros w n (laidOut w n) (ap said (sym (a .2 .0)) ∙ e)

@@ -11,7 +11,8 @@ use lib.Seq.{getD-take, getD-drop}
 use borrow.Author.Tests.{ltb-true, ltb-false, lt-ltb, le-ltb}
 use contract.Lifetimes.{Lfts}
 use denote.Ref.{RefT}
-use Rattle.refusal.specs.Said.{Said, ok, noBy, no, NOT-TABLE, ROOM}
+use Rattle.refusal.specs.declared.Refusal.{Refusal}
+use Rattle.refusal.specs.Said.{Said, refusalAt, ok, noBy, no, NOT-TABLE, ROOM}
 use Rattle.buffer.specs.declared.Written.{Written}
 use Rattle.buffer.specs.Written.{said}
 use Rattle.buffer.specs.Over.{zeros}
@@ -119,15 +120,15 @@ table-leaves κs room f h =
 
 -- Why encode says what it says
 
--- number k is given at p
-data Reason (d : List ℕ) (n k p : ℕ) : Type 0 where
-  no-table : k ≡ NOT-TABLE → p ≡ 0 → isTable d ≡ false → Reason d n k p
-  narrow : k ≡ ROOM → p ≡ 0 → isTable d ≡ true → n < length (wordsPart d) → Reason d n k p
+-- this refusal is given
+data Reason (d : List ℕ) (n : ℕ) (r : Refusal) : Type 0 where
+  no-table : r ≡ refusalAt NOT-TABLE 0 → isTable d ≡ false → Reason d n r
+  narrow : r ≡ refusalAt ROOM 0 → isTable d ≡ true → n < length (wordsPart d) → Reason d n r
 
 -- of a room d and an output of n numbers this is said
 abbrev Why : List ℕ → ℕ → Said → Type 0
 Why d n (ok l) = (isTable d ≡ true) × (length (wordsPart d) ≤ n) × (l ≡ length (wordsPart d) ∷ [])
-Why d n (noBy r) = Reason d n (r .number) (r .place)
+Why d n (noBy r) = Reason d n r
 
 module _ (d : List ℕ) (n : ℕ) where
   says-no-table : isTable d ≡ false → said (encodeOf d n) ≡ no NOT-TABLE 0
@@ -146,22 +147,22 @@ module _ (d : List ℕ) (n : ℕ) where
   why = go (isTable d) (ltb n (length (wordsPart d))) refl refl
     where
       go : (a b : Bool) → isTable d ≡ a → ltb n (length (wordsPart d)) ≡ b → Why d n (said (encodeOf d n))
-      go false b i j = subst (Why d n) (sym (says-no-table i)) (no-table refl refl i)
-      go true true i j = let l = ltb-true n (length (wordsPart d)) j in subst (Why d n) (sym (says-narrow i l)) (narrow refl refl i l)
+      go false b i j = subst (Why d n) (sym (says-no-table i)) (no-table refl i)
+      go true true i j = let l = ltb-true n (length (wordsPart d)) j in subst (Why d n) (sym (says-narrow i l)) (narrow refl i l)
       go true false i j = let l = ltb-false n (length (wordsPart d)) j in subst (Why d n) (sym (says-words i l)) (i, l, refl)
 
   -- a refusal has one reason
-  by-no-table : {p : ℕ} → Reason d n NOT-TABLE p → (p ≡ 0) × (isTable d ≡ false)
-  by-no-table (no-table _ e h) = (e, h)
-  by-no-table (narrow i _ _ _) = absurd (omega arith)
+  by-no-table : {p : ℕ} → Reason d n (refusalAt NOT-TABLE p) → (p ≡ 0) × (isTable d ≡ false)
+  by-no-table (no-table i h) = (ap (λ r. r .place) i, h)
+  by-no-table (narrow i _ _) = let j : NOT-TABLE ≡ ROOM = ap (λ r. r .number) i in absurd (omega arith)
 
-  by-narrow : {p : ℕ} → Reason d n ROOM p → (p ≡ 0) × (isTable d ≡ true) × (n < length (wordsPart d))
-  by-narrow (no-table i _ _) = absurd (omega arith)
-  by-narrow (narrow _ e h l) = (e, h, l)
+  by-narrow : {p : ℕ} → Reason d n (refusalAt ROOM p) → (p ≡ 0) × (isTable d ≡ true) × (n < length (wordsPart d))
+  by-narrow (no-table i _) = let j : ROOM ≡ NOT-TABLE = ap (λ r. r .number) i in absurd (omega arith)
+  by-narrow (narrow i h l) = (ap (λ r. r .place) i, h, l)
 
-  numbered : {k p : ℕ} → Reason d n k p → (k ≡ NOT-TABLE) ⊎ (k ≡ ROOM)
-  numbered (no-table i _ _) = inl i
-  numbered (narrow i _ _ _) = inr i
+  numbered : {r : Refusal} → Reason d n r → ((r .number ≡ NOT-TABLE) ⊎ (r .number ≡ ROOM)) × (r .item ≡ 0)
+  numbered (no-table i _) = (inl (ap (λ r. r .number) i), ap (λ r. r .item) i)
+  numbered (narrow i _ _) = (inr (ap (λ r. r .number) i), ap (λ r. r .item) i)
 
   -- a room that is not left for any words is no table
   pub none-left : (isTable d ≡ true → ⊥) → isTable d ≡ false
@@ -172,10 +173,10 @@ module _ (d : List ℕ) (n : ℕ) where
       go false e = e
 
   -- refused, the output is all zeros
-  zero-out : {k p : ℕ} → Reason d n k p → outOf d n ≡ zeros n
+  zero-out : {r : Refusal} → Reason d n r → outOf d n ≡ zeros n
   unfolding outOf
-  zero-out (no-table _ _ h) = rw h
-  zero-out (narrow _ _ h l) = rw (h, lt-ltb n (length (wordsPart d)) l)
+  zero-out (no-table _ h) = rw h
+  zero-out (narrow _ h l) = rw (h, lt-ltb n (length (wordsPart d)) l)
 
 -- The call, by its own contract. As of the words of decode, that the room's numbers have 32 bits is a premise
 
@@ -201,13 +202,13 @@ encode-answers room out f x left a =
         λ e. let r = subst (Why d n) e (why d n) in (wordsPart d, own (r .0), r .1, ap (λ l. getD l 0 0) (r .2)),
         λ h. let t = leaves-table (h .1) in says-words d n (t .0) (subst (λ m. m ≤ n) (sym (t .1)) (h .2)) ∙ ap (λ m. ok (m ∷ [])) (t .1 ∙ sym (h .3)),
       );
-      no-other = λ k p e. numbered d n (subst (Why d n) e (why d n));
+      no-other = λ r e. numbered d n (subst (Why d n) e (why d n));
     })
 
 -- "Refused: all outputs zero."
 pub encode-refused-zero : (room out : RefT (List ℕ)) (x : Written) (left : List ℕ) → EncodeAnswers room out x left →
-    (number p : ℕ) → said x ≡ no number p → left ≡ zeros (length (out .now))
-encode-refused-zero room out x left a number p e =
+    (r : Refusal) → said x ≡ noBy r → left ≡ zeros (length (out .now))
+encode-refused-zero room out x left a r e =
     let d = room .now in
     let n = length (out .now) in
     sym (a .3) ∙ a .2 .1 ∙ zero-out d n (subst (Why d n) (ap said (sym (a .2 .0)) ∙ e) (why d n))

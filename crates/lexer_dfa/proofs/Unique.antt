@@ -54,13 +54,13 @@ use Rattle.rule_rows.proofs.escape_row_is_valid.Reads as escape-row-is-valid
 use Rattle.rule_contexts.proofs.continuation_is_valid.Reads as continuation-is-valid
 use Rattle.rule_contexts.proofs.continuation_is_plain.Reads as continuation-is-plain
 use Rattle.rule_walk.proofs.all_pass.Reads as all-pass
-use Rattle.rule_walk.proofs.mode_starts_are_states.Reads as mode-starts-are-states
-use Rattle.rule_walk.proofs.states_are_valid.Reads as states-are-valid
-use Rattle.rule_walk.proofs.runs_are_classified.Reads as runs-are-classified
-use Rattle.rule_walk.proofs.ascii_targets_are_good.Reads as ascii-targets-are-good
-use Rattle.rule_walk.proofs.wide_rows_are_searchable.Reads as wide-rows-are-searchable
-use Rattle.rule_walk.proofs.escape_rows_are_valid.Reads as escape-rows-are-valid
-use Rattle.rule_walk.proofs.continuation_contexts_are_valid.Reads as continuation-contexts-are-valid
+use Rattle.rule_walk.proofs.starts_that_are_states.Reads as starts-that-are-states
+use Rattle.rule_walk.proofs.states_that_are_valid.Reads as states-that-are-valid
+use Rattle.rule_walk.proofs.runs_that_are_classified.Reads as runs-that-are-classified
+use Rattle.rule_walk.proofs.ascii_rows_that_are_good.Reads as ascii-rows-that-are-good
+use Rattle.rule_walk.proofs.wide_rows_that_are_searchable.Reads as wide-rows-that-are-searchable
+use Rattle.rule_walk.proofs.escape_rows_that_are_valid.Reads as escape-rows-that-are-valid
+use Rattle.rule_walk.proofs.continuations_that_are_valid.Reads as continuations-that-are-valid
 use Rattle.rule_first.proofs.first_broken.Reads as first-broken
 use Rattle.room_fill.specs.Room.{roomFor}
 use Rattle.buffer.proofs.clear.Reads as clear
@@ -269,26 +269,26 @@ continuation-is-plain-unique κs a x y e f p q = p ∙ sym q
 pub all-pass-unique : Determines all-pass.Learnt
 all-pass-unique κs a x y e f p q = p ∙ sym q
 
-pub mode-starts-are-states-unique : Determines mode-starts-are-states.Learnt
-mode-starts-are-states-unique κs a x y e f p q = p ∙ sym q
+pub starts-that-are-states-unique : Determines starts-that-are-states.Learnt
+starts-that-are-states-unique κs a x y e f p q = p ∙ sym q
 
-pub states-are-valid-unique : Determines states-are-valid.Learnt
-states-are-valid-unique κs a x y e f p q = p ∙ sym q
+pub states-that-are-valid-unique : Determines states-that-are-valid.Learnt
+states-that-are-valid-unique κs a x y e f p q = p ∙ sym q
 
-pub runs-are-classified-unique : Determines runs-are-classified.Learnt
-runs-are-classified-unique κs a x y e f p q = p ∙ sym q
+pub runs-that-are-classified-unique : Determines runs-that-are-classified.Learnt
+runs-that-are-classified-unique κs a x y e f p q = p ∙ sym q
 
-pub ascii-targets-are-good-unique : Determines ascii-targets-are-good.Learnt
-ascii-targets-are-good-unique κs a x y e f p q = p ∙ sym q
+pub ascii-rows-that-are-good-unique : Determines ascii-rows-that-are-good.Learnt
+ascii-rows-that-are-good-unique κs a x y e f p q = p ∙ sym q
 
-pub wide-rows-are-searchable-unique : Determines wide-rows-are-searchable.Learnt
-wide-rows-are-searchable-unique κs a x y e f p q = p ∙ sym q
+pub wide-rows-that-are-searchable-unique : Determines wide-rows-that-are-searchable.Learnt
+wide-rows-that-are-searchable-unique κs a x y e f p q = p ∙ sym q
 
-pub escape-rows-are-valid-unique : Determines escape-rows-are-valid.Learnt
-escape-rows-are-valid-unique κs a x y e f p q = p ∙ sym q
+pub escape-rows-that-are-valid-unique : Determines escape-rows-that-are-valid.Learnt
+escape-rows-that-are-valid-unique κs a x y e f p q = p ∙ sym q
 
-pub continuation-contexts-are-valid-unique : Determines continuation-contexts-are-valid.Learnt
-continuation-contexts-are-valid-unique κs a x y e f p q = p ∙ sym q
+pub continuations-that-are-valid-unique : Determines continuations-that-are-valid.Learnt
+continuations-that-are-valid-unique κs a x y e f p q = p ∙ sym q
 
 -- index_rules
 

@@ -8,7 +8,8 @@ use lib.Dec.{eqb, ltb}
 use lib.ListN.{length, getD, take}
 use contract.Lifetimes.{Lfts}
 use denote.Ref.{RefT}
-use Rattle.refusal.specs.Said.{Said, ok, no, NOT-TABLE, ROOM}
+use Rattle.refusal.specs.declared.Refusal.{Refusal}
+use Rattle.refusal.specs.Said.{Said, noBy, ok, no, NOT-TABLE, ROOM}
 use Rattle.refusal.specs.Lists.{some}
 use Rattle.buffer.specs.declared.Written.{Written}
 use Rattle.buffer.specs.Written as written
@@ -109,7 +110,7 @@ pub record EncodedBy (d : List ℕ) (n : ℕ) (says : Said) : Type 0 where
   -- it is left for some, and the output is long enough: so many are answered
   pub accepts : (k : ℕ) → Exactly (says ≡ ok (k ∷ [])) ((w : List ℕ) × Leaves w d × (length w ≤ n) × (k ≡ length w))
   -- no other number is given
-  pub no-other : (number p : ℕ) → says ≡ no number p → (number ≡ NOT-TABLE) ⊎ (number ≡ ROOM)
+  pub no-other : (r : Refusal) → says ≡ noBy r → ((r .number ≡ NOT-TABLE) ⊎ (r .number ≡ ROOM)) × (r .item ≡ 0)
 
 -- coverage may answer x by its own contract
 abbrev pub CoverageAnswers : (room : RefT (List ℕ)) (state : ℕ) → Answer → Type 0

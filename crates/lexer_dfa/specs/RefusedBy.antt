@@ -3,8 +3,10 @@
 use Prim.Native.Nat.{ℕ, _≤_, _<_}
 use mathlib.Core.Path.{_≡_}
 use mathlib.Core.List.{List}
+use mathlib.Core.Logic.{_⊎_}
 use lib.ListN.{length}
-use Rattle.refusal.specs.Said.{Said, no, SHORT, TAG, FIELD, LIMIT, LEFT, INDEX, ROOM}
+use Rattle.refusal.specs.declared.Refusal.{Refusal}
+use Rattle.refusal.specs.Said.{Said, no, noBy, brokenBy, SHORT, TAG, FIELD, LIMIT, LEFT, INDEX, ROOM}
 use Rattle.law_tables.specs.Table.{Table, wordsOf, Fields}
 use Rattle.law_tables.specs.Rules.{FirstBroken}
 use Rattle.law_tables.specs.Fronts.{EndsInside, Differs, Forbids, Opens, Exactly}
@@ -14,9 +16,10 @@ use Rattle.lexer_dfa.specs.Demands.{From}
 abbrev pub WithinLimits : (w : List ℕ) (n : ℕ) → Type 0
 WithinLimits w n = (16384 ≤ n) × (length w ≤ 8192)
 
--- "6 INDEX | an index rule is broken": w is the words of a table whose fields are allowed, and k is the first rule that it breaks
-abbrev pub Breaks : (w : List ℕ) (k : ℕ) → Type 0
-Breaks w k = (t : Table) × Fields t × FirstBroken t k × (w ≡ wordsOf t)
+-- "6 INDEX | an index rule is broken": w is the words of a table whose fields are allowed, k is the first rule that it breaks, and i "the first
+-- mode, state, row or continuation that breaks that rule"
+abbrev pub Breaks : (w : List ℕ) (k i : ℕ) → Type 0
+Breaks w k i = (t : Table) × Fields t × FirstBroken t k i × (w ≡ wordsOf t)
 
 -- "Given exactly when", and "Place returned": what decode says of words w and a room of n numbers
 pub record RefusedBy (w : List ℕ) (n : ℕ) (says : Said) : Type 0 where
@@ -30,9 +33,9 @@ pub record RefusedBy (w : List ℕ) (n : ℕ) (says : Said) : Type 0 where
   pub limit : (p : ℕ) → Exactly (says ≡ no LIMIT p) ((p ≡ 8192) × (16384 ≤ n) × (8192 < length w))
   -- "5 LEFT | words remain | first unread"
   pub left : (p : ℕ) → Exactly (says ≡ no LEFT p) (WithinLimits w n × ((p < length w) × Opens w p))
-  -- "6 INDEX | an index rule is broken | rule number"
-  pub index : (p : ℕ) → Exactly (says ≡ no INDEX p) (WithinLimits w n × Breaks w p)
+  -- "6 INDEX | an index rule is broken | rule number", with the item
+  pub index : (p i : ℕ) → Exactly (says ≡ noBy (brokenBy p i)) (WithinLimits w n × Breaks w p i)
   -- "7 ROOM | a lent buffer is shorter than stated, or a pool can't take a new row | 0": the room of a table is lent
   pub room : (p : ℕ) → Exactly (says ≡ no ROOM p) ((p ≡ 0) × (n < 16384))
-  -- no other number is given
-  pub no-other : (number p : ℕ) → says ≡ no number p → From 1 7 number
+  -- no other number is given, and the item is 0 "for all other refusals"
+  pub no-other : (r : Refusal) → says ≡ noBy r → From 1 7 (r .number) × ((r .item ≡ 0) ⊎ (r .number ≡ INDEX))

@@ -243,6 +243,7 @@ pub fn place_masks(
         clear_both(masks, segments);
         return Places::Refused(Refusal {
             number: ROOM,
+            item: 0,
             place: 0,
         });
     }

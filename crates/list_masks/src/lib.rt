@@ -428,6 +428,7 @@ pub fn segment_mask_matrix(list: &[u8], segments: &mut [u32], masks: &mut [u64])
         buffer::clear(segments);
         return Masks::Refused(Refusal {
             number: ROOM,
+            item: 0,
             place: 0,
         });
     }

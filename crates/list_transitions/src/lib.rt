@@ -255,7 +255,11 @@ fn read_record(list: &[u8], at: usize) -> Step
 fn refuse(number: u32, place: usize) -> Transitions
     ensures { λ r. ⌜ said r ≡ no number place ⌝ }
 {
-    Transitions::Refused(Refusal { number, place })
+    Transitions::Refused(Refusal {
+        number,
+        item: 0,
+        place,
+    })
 }
 
 // How many transitions a list has, and how many intervals in all. A record is judged whole before the limits are.
@@ -298,6 +302,7 @@ pub fn read_intervals(list: &[u8], out: &mut [u32]) -> Transitions
     if out.len() < ENDS {
         return Transitions::Refused(Refusal {
             number: ROOM,
+            item: 0,
             place: 0,
         });
     }

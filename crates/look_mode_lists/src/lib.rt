@@ -55,6 +55,7 @@ fn flags_into(room: &[u32], at: usize, count: u32, out: &mut [u32]) -> Written
     if out.len() < (count as usize) {
         return Written::Refused(Refusal {
             number: ROOM,
+            item: 0,
             place: 0,
         });
     }
@@ -70,6 +71,7 @@ pub fn compiled_mode_flags(room: &[u32], out: &mut [u32]) -> Written
         Modes::Starts(at, count) => flags_into(room, at, count, out),
         Modes::Outside => Written::Refused(Refusal {
             number: NOT_TABLE,
+            item: 0,
             place: 0,
         }),
     }
@@ -182,6 +184,7 @@ fn counts_into(room: &[u32], at: usize, count: u32, states: u32, out: &mut [u32]
     if out.len() < (compiled as usize) {
         return Written::Refused(Refusal {
             number: ROOM,
+            item: 0,
             place: 0,
         });
     }
@@ -189,6 +192,7 @@ fn counts_into(room: &[u32], at: usize, count: u32, states: u32, out: &mut [u32]
     if place < count {
         return Written::Refused(Refusal {
             number: ORDER,
+            item: 0,
             place: place as usize,
         });
     }
@@ -212,6 +216,7 @@ fn counts_with(room: &[u32], states: u32, out: &mut [u32]) -> Written
         Modes::Starts(at, count) => counts_into(room, at, count, states, out),
         Modes::Outside => Written::Refused(Refusal {
             number: NOT_TABLE,
+            item: 0,
             place: 0,
         }),
     }
@@ -226,10 +231,12 @@ pub fn mode_state_counts(room: &[u32], out: &mut [u32]) -> Written
         Answer::Number(states) => counts_with(room, states, out),
         Answer::NoState => Written::Refused(Refusal {
             number: STATE,
+            item: 0,
             place: 0,
         }),
         Answer::NotTable => Written::Refused(Refusal {
             number: NOT_TABLE,
+            item: 0,
             place: 0,
         }),
     }

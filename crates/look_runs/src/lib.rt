@@ -25,7 +25,11 @@ fn refuse(number: u32) -> RunAnswer
     ensures { λ r. ⌜ Gives r (refused number 0) ⌝ }
 {
     RunAnswer {
-        answer: Answered::Refused(Refusal { number, place: 0 }),
+        answer: Answered::Refused(Refusal {
+            number,
+            item: 0,
+            place: 0,
+        }),
         ranges: run_ranges::none(),
     }
 }

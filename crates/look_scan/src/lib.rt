@@ -57,7 +57,11 @@ fn told(scanned: Scanned) -> StateScan
 fn no_answer(number: u32) -> StateScan
     ensures { λ r. ⌜ said r ≡ no number 0 ⌝ }
 {
-    StateScan::NoAnswer(Refusal { number, place: 0 })
+    StateScan::NoAnswer(Refusal {
+        number,
+        item: 0,
+        place: 0,
+    })
 }
 
 // The scan by a run.

@@ -15,5 +15,9 @@ pub enum Interned {
 pub fn refuse(number: u32) -> Interned
     ensures { λ r. ⌜ said r ≡ no number 0 ⌝ }
 {
-    Interned::Refused(Refusal { number, place: 0 })
+    Interned::Refused(Refusal {
+        number,
+        item: 0,
+        place: 0,
+    })
 }

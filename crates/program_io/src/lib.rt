@@ -15,7 +15,11 @@ use room_decode::Decoded;
 fn refused(number: u32, place: usize) -> Decoded
     ensures { λ r. ⌜ r ≡ refused number place ⌝ }
 {
-    Decoded::Refused(Refusal { number, place })
+    Decoded::Refused(Refusal {
+        number,
+        item: 0,
+        place,
+    })
 }
 
 // The table whose words these bytes are: LIMIT, then SHORT for spare bytes, then what decoding answers and leaves in the room.

@@ -3,9 +3,13 @@ use Prim.Native.Nat.{ℕ}
 use mathlib.Core.List.{List}
 use Rattle.refusal.specs.declared.Refusal.{Refusal}
 
--- the refusal of that number, at that place
+-- the refusal of that number, at that place: its item is 0
 abbrev pub refusalAt : ℕ → ℕ → Refusal
-refusalAt n p = record { number = n; place = p }
+refusalAt n p = record { number = n; item = 0; place = p }
+
+-- "for INDEX the first mode, state, row or continuation that breaks that rule": that of rule k, broken first by item i
+abbrev pub brokenBy : ℕ → ℕ → Refusal
+brokenBy k i = record { number = 6; item = i; place = k }
 
 pub data Said : Type 0 where
   ok : List ℕ → Said

@@ -14,15 +14,17 @@ fn same_answer(decoded: Decoded, recorded: &[u8]) -> bool {
             words,
         } => {
             (read::half(recorded, 0) == 0)
-                & (modes as usize == read::small(recorded, 2))
-                & (states as usize == read::small(recorded, 3))
-                & (words == read::small(recorded, 4))
+                & (read::byte(recorded, 2) == 0)
+                & (modes as usize == read::small(recorded, 3))
+                & (states as usize == read::small(recorded, 4))
+                & (words == read::small(recorded, 5))
         }
         Decoded::Refused(refusal) => {
             (refusal.number as usize == read::small(recorded, 0))
                 & (refusal.place == read::small(recorded, 1))
-                & (read::half(recorded, 2) == 0)
-                & (read::byte(recorded, 4) == 0)
+                & (refusal.item as usize == read::small(recorded, 2))
+                & (read::half(recorded, 3) == 0)
+                & (read::byte(recorded, 5) == 0)
         }
     }
 }
@@ -36,7 +38,7 @@ pub(crate) fn replay_decode(record: &[u8]) -> Replayed {
     let mut room = [1u32; ROOM_NUMBERS];
     let decoded = room_decode::decode(&words[..k], &mut room);
     Replayed {
-        more: 10 + 4 * n,
-        same: same_answer(decoded, recorded) & (check::short(&room) == read::word(recorded, 5)),
+        more: 11 + 4 * n,
+        same: same_answer(decoded, recorded) & (check::short(&room) == read::word(recorded, 6)),
     }
 }

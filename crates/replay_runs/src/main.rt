@@ -7,7 +7,7 @@
 //     2 class      three words, answer u8: 0 whitespace, 1 number, 2 identifier, 3 other, 255 refused
 //     3 scan       number of words u8, words, input length u16, input,
 //                  outcome u8: 0 refused, 1 no run, 2 ran; bytes u16, exit found u8
-//     4 decode     number of words u8, words, refusal u8: 0 accepted; place u8, modes u8, states u8, words u8,
+//     4 decode     number of words u8, words, refusal u8: 0 accepted; place u8, item u8, modes u8, states u8, words u8,
 //                  check u32 of a room of 16,384 numbers: the sum of the sums after each number, in 32 bits
 //
 // It prints how many of the bytes it came through, then for each kind how many of our answers are equal and how many differ. A record

@@ -4,7 +4,8 @@
 // are read one after the other: their counts are at 1, 3, 8, 10, 75, 77, 78 and 81, and nothing is left. The room gets its header, the
 // words with flags made 0 or 1, and where each record of variable length starts. Then the nine rules are judged: the one run is 1, any,
 // and so must be the classification of row 0 at state 0, whose 128 targets are all 0: it is. The answer is 1 mode, 1 state, 82 words. Had
-// a rule been broken, the room would have been cleared again.
+// a rule been broken, the room would have been cleared again, and the refusal would have named the first mode, state, row or continuation that
+// breaks it.
 ghost use mathlib.Core.Path.{_≡_};
 ghost use lib.ListN.{length};
 ghost use Rattle.room_decode.specs.Decode.{decodeOf, roomOf};
@@ -30,8 +31,8 @@ pub fn decode(words: &[u32], room: &mut [u32]) -> Decoded
 {
     match room_fill::fill(words, room) {
         Layout::Found(s) => {
-            let rule = rule_first::first_broken(words, s);
-            if rule == 0 {
+            let broken = rule_first::first_broken(words, s);
+            if broken.rule == 0 {
                 return Decoded::Table {
                     modes: word_at(words, s.modes),
                     states: word_at(words, s.states),
@@ -41,7 +42,8 @@ pub fn decode(words: &[u32], room: &mut [u32]) -> Decoded
             buffer::clear(room);
             Decoded::Refused(Refusal {
                 number: INDEX,
-                place: rule as usize,
+                item: broken.item,
+                place: broken.rule as usize,
             })
         }
         Layout::Unfound(r) => Decoded::Refused(r),

@@ -88,6 +88,7 @@ fn write_table(count: u32, room: &[u32], s: Sections, out: &mut [u32]) -> Writte
     if out.len() < words {
         return Written::Refused(Refusal {
             number: ROOM,
+            item: 0,
             place: 0,
         });
     }
@@ -105,6 +106,7 @@ pub fn encode(room: &[u32], out: &mut [u32]) -> Written
         Layout::Found(s) => write_table(room[WORD_COUNT], room, s, out),
         Layout::Unfound(_) => Written::Refused(Refusal {
             number: NOT_TABLE,
+            item: 0,
             place: 0,
         }),
     }

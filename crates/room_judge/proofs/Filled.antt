@@ -9,7 +9,7 @@ use borrow.Author.Tests.{lt-ltb, le-ltb, eq-eqb, ne-eqb}
 use lib.Dec.{eqb}
 use lib.ListN.{length, getD, take, drop, length-take, length-drop}
 use Rattle.refusal.specs.declared.Refusal.{Refusal}
-use Rattle.refusal.specs.Said.{refusalAt, NOT-TABLE, LIMIT, ROOM, INDEX}
+use Rattle.refusal.specs.Said.{refusalAt, brokenBy, NOT-TABLE, LIMIT, ROOM}
 use Rattle.refusal.proofs.Lists.{and-split, same-equal, equal-same}
 use Rattle.refusal.specs.Lists.{pick, sameList}
 use Rattle.refusal.specs.Header.{WORD-COUNT, MODES-START, WIDE-START, HEADER-NUMBERS, wordCount}
@@ -20,7 +20,9 @@ use Rattle.word_layout.specs.declared.Layout.{Layout}
 use Rattle.word_layout.specs.declared.Layout.the-variants.{Found, Unfound}
 use Rattle.word_layout.specs.Layout.{unfound, layoutOf}
 use Rattle.word_layout.proofs.Found.{modes-there, states-there, runs-there, ascii-there, wide-there, accepts-there, escapes-there, continuations-there}
-use Rattle.rule_words.specs.Rules.{broken}
+use Rattle.rule_words.specs.Rules.{broken, brokenItem}
+use Rattle.rule_first.specs.declared.Broken.{Broken}
+use Rattle.rule_first.specs.Broken.{firstIn}
 use Rattle.buffer.specs.Over.{zeros, padded}
 use Rattle.word_layout.specs.Limits.{laidOut}
 use Rattle.room_fill.specs.Room.{inRoom, four, header, made, places, numbers, roomFor}
@@ -155,7 +157,7 @@ module _ (w d : List ℕ) where
         rw (← (p .is), laid-is w d (p .is) (p .limit) (p .room), f, i) (go (eqb (broken w s) 0))
       where
         go : (t : Bool) → pick
-            (accepted (pick t (Table (getD w (s .modes) 0) (getD w (s .states) 0) (length w)) (decoded.Refused (refusalAt INDEX (broken w s))))
+            (accepted (pick t (Table (getD w (s .modes) 0) (getD w (s .states) 0) (length w)) (decoded.Refused (brokenBy (broken w s) (brokenItem w s))))
             && sameList (pick t (padded (length d) (numbers w s)) (zeros (length d))) d) (Found s) notTable
             ≡ pick (t && sameList (padded (length d) (numbers w s)) d) (Found s) notTable
         go true = refl
@@ -252,14 +254,14 @@ module _ (w d : List ℕ) (s : Sections) where
     filled-all o y u z g f h = h ∙ (rw (← o, y, ← u, z) (here (places w s) (length w + HEADER-NUMBERS) d g f))
 
 -- no rule is broken, or one is
-module _ (w d : List ℕ) (s : Sections) {k : ℕ} where
-  pub sound-filled : {n : Bool} → k ≡ broken w s → k ≡ 0 → n ≡ filled w s d → n ≡ sound w s d
+module _ (w d : List ℕ) (s : Sections) {q : Broken} where
+  pub sound-filled : {n : Bool} → q ≡ firstIn w s → q .rule ≡ 0 → n ≡ filled w s d → n ≡ sound w s d
   unfolding sound
-  sound-filled b z h = h ∙ (rw (← b, eq-eqb k 0 z))
+  sound-filled b z h = let y : broken w s ≡ 0 = cc in h ∙ (rw y)
 
-  pub sound-broken : k ≡ broken w s → (k ≡ 0 → ⊥) → false ≡ sound w s d
+  pub sound-broken : q ≡ firstIn w s → (q .rule ≡ 0 → ⊥) → false ≡ sound w s d
   unfolding sound
-  sound-broken b z = rw (← b, ne-eqb k 0 z)
+  sound-broken b z = rw (ne-eqb (broken w s) 0 (λ e. z (let x : q .rule ≡ 0 = cc in x)))
 
 -- the sections of few words
 pub few : (w : List ℕ) {s : Sections} → layoutOf w ≡ Found s → length w ≤ 8192 → Few s

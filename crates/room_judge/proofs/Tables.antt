@@ -9,7 +9,7 @@ use lib.Dec.{eqb}
 use lib.ListN.{length, getD}
 use borrow.Author.Tests.{le-ltb, eqb-true}
 use Rattle.refusal.specs.declared.Refusal.{Refusal}
-use Rattle.refusal.specs.Said.{refusalAt, INDEX, NOT-TABLE}
+use Rattle.refusal.specs.Said.{brokenBy, NOT-TABLE}
 use Rattle.refusal.specs.Lists.{pick, sameList}
 use Rattle.refusal.proofs.Lists.{and-split, same-equal}
 use Rattle.word_reader.specs.declared.Sections.{Sections}
@@ -18,7 +18,7 @@ use Rattle.word_layout.specs.declared.Layout.the-variants.{Found, Unfound}
 use Rattle.word_layout.specs.Layout.{unfound, layoutOf}
 use Rattle.word_layout.specs.Limits.{laidOut}
 use Rattle.word_layout.proofs.Laws.{kept}
-use Rattle.rule_words.specs.Rules.{broken}
+use Rattle.rule_words.specs.Rules.{broken, brokenItem}
 use Rattle.room_decode.specs.declared.Decoded.the-variants as decoded
 use Rattle.room_decode.specs.Decode.{judged, decodedFrom, decodeOf, roomOf}
 use Rattle.law_tables.specs.Table.{Table, Fields, wordsOf}
@@ -45,7 +45,7 @@ accepted-table w n f h = go (laidOut w n) refl h
     go (Found s) i e = unbroken (eqb (broken w s) 0) refl e
       where
         unbroken : (b : Bool) → eqb (broken w s) 0 ≡ b → accepted (pick b (decoded.Table (getD w (s .modes) 0) (getD w (s .states) 0) (length w))
-            (decoded.Refused (refusalAt INDEX (broken w s)))) ≡ true
+            (decoded.Refused (brokenBy (broken w s) (brokenItem w s)))) ≡ true
             → (t : Table) × Fields t × Rules t × (w ≡ wordsOf t) × (length w ≤ 8192) × (16384 ≤ n)
         unbroken false u e = let z : _≡_ {A = ℕ} 0 1 = cc in absurd (omega arith)
         unbroken true u e =

@@ -26,6 +26,7 @@ fn not_table() -> Layout
 {
     Layout::Unfound(Refusal {
         number: NOT_TABLE,
+        item: 0,
         place: 0,
     })
 }
@@ -68,8 +69,8 @@ fn is_sound(words: &[u32], s: Sections, room: &[u32]) -> bool
     requires fits { ⌜ 16384 ≤ length (now room) ⌝ }
     ensures { λ r. ⌜ r ≡ sound (now (words .entry)) s (now (room .entry)) ⌝ }
 {
-    let rule = rule_first::first_broken(words, s);
-    if rule == 0 {
+    let broken = rule_first::first_broken(words, s);
+    if broken.rule == 0 {
         return is_filled(words, s, room);
     }
     false

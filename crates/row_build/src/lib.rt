@@ -321,7 +321,11 @@ fn place_for_rows(
             let number = row_goals::refusal_for(d, targets, continuations, short);
             if number != 0 {
                 clear_masks(segments, masks, distinct);
-                return Places::Refused(Refusal { number, place: 0 });
+                return Places::Refused(Refusal {
+                    number,
+                    item: 0,
+                    place: 0,
+                });
             }
             Places::Found {
                 segments: count,

@@ -4,7 +4,7 @@ use mathlib.Core.List.{List}
 use mathlib.Core.Bool.{Bool}
 use Rattle.word_reader.specs.declared.Place.{Place}
 use Rattle.word_reader.specs.Records.{modeAt, stateAt, runAt, asciiAt, wideAt, acceptAt, escapeAt, continuationAt}
-use Rattle.rule_words.specs.Rules.{numberedIn, startGood, stateGood, runGood, asciiGood, wideGood, escapeGood, continuationGood}
+use Rattle.rule_words.specs.Rules.{numberedIn, passingIn, startGood, stateGood, runGood, asciiGood, wideGood, escapeGood, continuationGood}
 use Rattle.rule_words.specs.Flags.{acceptPlain, continuationPlain}
 use Rattle.rule_walk.specs.declared.Question.{Question}
 use Rattle.rule_walk.specs.declared.Question.the-variants.{StartIsState, StateIsValid, RunIsClassified, AsciiRowIsGood, WideRowIsSearchable}
@@ -34,6 +34,10 @@ passes ContinuationIsValid w i = continuationGood w
 passes AcceptIsPlain w i = acceptPlain w
 passes ContinuationIsPlain w i = continuationPlain w
 
--- each record of the section at `at` does
+-- how many of the section at `at` do before the first that does not
+abbrev pub passingOf : Question → List ℕ → ℕ → ℕ
+passingOf q w at = passingIn (askedAt q) (passes q w) w at
+
+-- each of them does
 abbrev pub allPass : Question → List ℕ → ℕ → Bool
 allPass q w at = numberedIn (askedAt q) (passes q w) w at

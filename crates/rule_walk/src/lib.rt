@@ -1,8 +1,9 @@
 // The walk over the records of a section that asks something of each: one loop, whatever the kind of record and the question.
-// Above it each index rule that walks over records, 1, 2, 4, 5, 6, 8 and 9. All work on the words and the places of the sections' counts.
+// Above it each index rule that walks over records, 1, 2, 4, 5, 6, 8 and 9: how many obey it before the first that does not. All work on the words
+// and the places of the sections' counts.
 ghost use mathlib.Core.Path.{_≡_};
-ghost use Rattle.rule_words.specs.Rules.{passing, rule1, rule2, rule4, rule5, rule6, rule8, rule9};
-ghost use Rattle.rule_walk.specs.Questions.{askedAt, passes, allPass};
+ghost use Rattle.rule_words.specs.Rules.{passing, item1, item2, item4, item5, item6, item8, item9};
+ghost use Rattle.rule_walk.specs.Questions.{askedAt, passes, passingOf, allPass};
 use rule_words::word_at;
 use word_reader::Place;
 
@@ -98,34 +99,39 @@ fn count_passing(question: Question, words: &[u32], count: u32, at: usize) -> u3
     number
 }
 
+// How many records of the section whose count stands at `at` pass before the first that does not: all of them, where each does.
+fn passing_in(question: Question, words: &[u32], at: usize) -> u32
+    ensures { λ r. ⌜ r ≡ passingOf question (now (words .entry)) at ⌝ }
+{
+    if words.len() <= at {
+        return 0;
+    }
+    count_passing(question, words, words[at], at + 1)
+}
+
 // Each record passes of the section whose count stands at `at`.
 pub fn all_pass(question: Question, words: &[u32], at: usize) -> bool
     ensures { λ r. ⌜ r ≡ allPass question (now (words .entry)) at ⌝ }
 {
-    if words.len() <= at {
-        return true;
-    }
-    let count = words[at];
-    count_passing(question, words, count, at + 1) == count
+    passing_in(question, words, at) == word_at(words, at)
 }
 
 // Rule 1: mode starts are states.
-pub fn mode_starts_are_states(words: &[u32], modes: usize, states: usize) -> bool
-    ensures { λ r. ⌜ r ≡ rule1 (now (words .entry)) modes states ⌝ }
+pub fn starts_that_are_states(words: &[u32], modes: usize, states: usize) -> u32
+    ensures { λ r. ⌜ r ≡ item1 (now (words .entry)) modes states ⌝ }
 {
-    let question = Question::StartIsState(word_at(words, states));
-    all_pass(question, words, modes)
+    passing_in(Question::StartIsState(word_at(words, states)), words, modes)
 }
 
 // Rule 2: each state's rows exist, its EOF target is good, its accept is NONE or exists.
-pub fn states_are_valid(
+pub fn states_that_are_valid(
     words: &[u32],
     states: usize,
     ascii_rows: usize,
     wide_rows: usize,
     accepts: usize,
-) -> bool
-    ensures { λ r. ⌜ r ≡ rule2 (now (words .entry)) states «ascii_rows» «wide_rows» accepts ⌝ }
+) -> u32
+    ensures { λ r. ⌜ r ≡ item2 (now (words .entry)) states «ascii_rows» «wide_rows» accepts ⌝ }
 {
     let question = Question::StateIsValid {
         states: word_at(words, states),
@@ -133,44 +139,44 @@ pub fn states_are_valid(
         wide: word_at(words, wide_rows),
         accepts: word_at(words, accepts),
     };
-    all_pass(question, words, states)
+    passing_in(question, words, states)
 }
 
 // Rule 4: each run is the classification of its state's row.
-pub fn runs_are_classified(words: &[u32], states: usize, runs: usize, ascii_rows: usize) -> bool
-    ensures { λ r. ⌜ r ≡ rule4 (now (words .entry)) states runs «ascii_rows» ⌝ }
+pub fn runs_that_are_classified(words: &[u32], states: usize, runs: usize, ascii_rows: usize) -> u32
+    ensures { λ r. ⌜ r ≡ item4 (now (words .entry)) states runs «ascii_rows» ⌝ }
 {
     let question = Question::RunIsClassified { states, ascii_rows };
-    all_pass(question, words, runs)
+    passing_in(question, words, runs)
 }
 
 // Rule 5: ASCII targets are good.
-pub fn ascii_targets_are_good(words: &[u32], states: usize, ascii_rows: usize) -> bool
-    ensures { λ r. ⌜ r ≡ rule5 (now (words .entry)) states «ascii_rows» ⌝ }
+pub fn ascii_rows_that_are_good(words: &[u32], states: usize, ascii_rows: usize) -> u32
+    ensures { λ r. ⌜ r ≡ item5 (now (words .entry)) states «ascii_rows» ⌝ }
 {
     let question = Question::AsciiRowIsGood(word_at(words, states));
-    all_pass(question, words, ascii_rows)
+    passing_in(question, words, ascii_rows)
 }
 
 // Rule 6: wide rows are searchable, their targets good.
-pub fn wide_rows_are_searchable(words: &[u32], states: usize, wide_rows: usize) -> bool
-    ensures { λ r. ⌜ r ≡ rule6 (now (words .entry)) states «wide_rows» ⌝ }
+pub fn wide_rows_that_are_searchable(words: &[u32], states: usize, wide_rows: usize) -> u32
+    ensures { λ r. ⌜ r ≡ item6 (now (words .entry)) states «wide_rows» ⌝ }
 {
     let question = Question::WideRowIsSearchable(word_at(words, states));
-    all_pass(question, words, wide_rows)
+    passing_in(question, words, wide_rows)
 }
 
 // Rule 8: escape rows are searchable, the EOF continuation is NONE or present, the continuations are present.
-pub fn escape_rows_are_valid(words: &[u32], escape_rows: usize, continuations: usize) -> bool
-    ensures { λ r. ⌜ r ≡ rule8 (now (words .entry)) «escape_rows» continuations ⌝ }
+pub fn escape_rows_that_are_valid(words: &[u32], escape_rows: usize, continuations: usize) -> u32
+    ensures { λ r. ⌜ r ≡ item8 (now (words .entry)) «escape_rows» continuations ⌝ }
 {
     let question = Question::EscapeRowIsValid(word_at(words, continuations));
-    all_pass(question, words, escape_rows)
+    passing_in(question, words, escape_rows)
 }
 
 // Rule 9: contexts refer only below themselves; config contexts are at most the context count.
-pub fn continuation_contexts_are_valid(words: &[u32], continuations: usize) -> bool
-    ensures { λ r. ⌜ r ≡ rule9 (now (words .entry)) continuations ⌝ }
+pub fn continuations_that_are_valid(words: &[u32], continuations: usize) -> u32
+    ensures { λ r. ⌜ r ≡ item9 (now (words .entry)) continuations ⌝ }
 {
-    all_pass(Question::ContinuationIsValid, words, continuations)
+    passing_in(Question::ContinuationIsValid, words, continuations)
 }

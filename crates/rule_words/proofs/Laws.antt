@@ -15,7 +15,7 @@ use Rattle.refusal.specs.Lists.{pick}
 use Rattle.refusal.specs.declared.Refusal.{Refusal}
 use Rattle.word_reader.specs.declared.Place.{Place}
 use Rattle.word_reader.specs.declared.Place.the-variants.{Next, Refused}
-use Rattle.rule_words.specs.Rules.{everyFrom, every, everyIn, numberedIn, walk, readOr, passing, sized}
+use Rattle.rule_words.specs.Rules.{everyFrom, every, everyIn, numberedIn, walk, readOr, passing, passingIn, sized}
 
 -- A word past the end is 0.
 
@@ -132,17 +132,18 @@ in-section read test w at = walk-any test (read w) _ _ 0 0 (getD w at 0) (at + 1
 
 -- A section that starts past the end lists nothing; of another each record passes where as many do as it lists.
 module _ (read : List ℕ → ℕ → Place) (w : List ℕ) (at : ℕ) where
-  pub numbered-past : (test : ℕ → ℕ → Bool) → length w ≤ at → true ≡ numberedIn read test w at
-  unfolding walk
-  numbered-past test h = rw (← past-end w at h)
+  pub passing-past : (test : ℕ → ℕ → Bool) → length w ≤ at → 0 ≡ passingIn read test w at
+  unfolding passing
+  passing-past test h = rw (← past-end w at h)
 
-  pub numbered-passes : (test : ℕ → ℕ → Bool) {k : ℕ} → k ≡ passing test (read w) 0 (getD w at 0) (at + 1) → eqb k (getD w at 0) ≡ numberedIn read test w at
+  pub numbered-passes : (test : ℕ → ℕ → Bool) {k : ℕ} → k ≡ passingIn read test w at → eqb k (getD w at 0) ≡ numberedIn read test w at
   numbered-passes test e =
       let z : 0 + getD w at 0 ≡ getD w at 0 = omega arith in
       rw e (sym (rw z at (walk-passing test (read w) 0 (getD w at 0) (at + 1))))
 
   pub section-past : (test : ℕ → Bool) → length w ≤ at → true ≡ everyIn read test w at
-  section-past test h = numbered-past (λ i. test) h ∙ in-section read test w at
+  unfolding walk everyIn every
+  section-past test h = rw (← past-end w at h)
 
   pub section-passes : (test : ℕ → Bool) {k : ℕ} → k ≡ passing (λ i. test) (read w) 0 (getD w at 0) (at + 1) → eqb k (getD w at 0) ≡ everyIn read test w at
   section-passes test e = numbered-passes (λ i. test) e ∙ in-section read test w at

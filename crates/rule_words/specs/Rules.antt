@@ -52,6 +52,10 @@ unfoldable pub passing : (ℕ → ℕ → Bool) → (ℕ → Place) → ℕ → 
 passing test f i zero at = i
 passing test f i (suc n) at = readOr i (f at) (λ p. pick (test i at) (passing test f (i + 1) n p) i)
 
+-- of the section at `at`: all of them, where each passes
+abbrev pub passingIn : (List ℕ → ℕ → Place) → (ℕ → ℕ → Bool) → List ℕ → ℕ → ℕ
+passingIn read test w at = passing test (read w) 0 (getD w at 0) (at + 1)
+
 -- a record of so many words, whatever they are
 abbrev pub sized : ℕ → ℕ → Place
 sized n at = Next (at + n)
@@ -217,18 +221,13 @@ unfoldable pub firstBroken : ℕ → List Bool → ℕ
 firstBroken n [] = 0
 firstBroken n (b ∷ bs) = pick b (firstBroken (n + 1) bs) n
 
+-- rules 8 and 9
+abbrev pub endRules : List ℕ → Sections → List Bool
+endRules w s = rule8 w (s .escapes) (s .continuations) ∷ rule9 w (s .continuations) ∷ []
+
 -- rules 5 to 9
 abbrev pub rowRules : List ℕ → Sections → List Bool
-rowRules w s =
-    rule5 w (s .states) (s .ascii)
-    ∷ rule6 w (s .states) (s .wide)
-    ∷ rule7 w (s .states) (s .escapes)
-    ∷ rule8 w (s .escapes) (s .continuations)
-    ∷ rule9 w (s .continuations)
-    ∷ []
-
-abbrev pub brokenRow : List ℕ → Sections → ℕ
-brokenRow w s = firstBroken 5 (rowRules w s)
+rowRules w s = rule5 w (s .states) (s .ascii) ∷ rule6 w (s .states) (s .wide) ∷ rule7 w (s .states) (s .escapes) ∷ endRules w s
 
 -- all nine
 abbrev pub rules : List ℕ → Sections → List Bool
@@ -241,3 +240,49 @@ rules w s =
 
 abbrev pub broken : List ℕ → Sections → ℕ
 broken w s = firstBroken 1 (rules w s)
+
+-- "the first mode, state, row or continuation that breaks that rule, in count order": how many obey the rule before it
+abbrev pub item1 : List ℕ → ℕ → ℕ → ℕ
+item1 w m s = passingIn modeAt (λ i. startGood (getD w s 0) w) w m
+
+abbrev pub item2 : List ℕ → ℕ → ℕ → ℕ → ℕ → ℕ
+item2 w s a v x = passingIn stateAt (λ i. stateGood (getD w s 0) (getD w a 0) (getD w v 0) (getD w x 0) w) w s
+
+abbrev pub item4 : List ℕ → ℕ → ℕ → ℕ → ℕ
+item4 w s r a = passingIn runAt (runGood w s a) w r
+
+abbrev pub item5 : List ℕ → ℕ → ℕ → ℕ
+item5 w s a = passingIn asciiAt (λ i. asciiGood (getD w s 0) w) w a
+
+abbrev pub item6 : List ℕ → ℕ → ℕ → ℕ
+item6 w s v = passingIn wideAt (λ i. wideGood (getD w s 0) w) w v
+
+abbrev pub item8 : List ℕ → ℕ → ℕ → ℕ
+item8 w e c = passingIn escapeAt (λ i. escapeGood (getD w c 0) w) w e
+
+abbrev pub item9 : List ℕ → ℕ → ℕ
+item9 w c = passingIn continuationAt (λ i. continuationGood w) w c
+
+-- "0 for rules 3 and 7"
+abbrev pub endItems : List ℕ → Sections → List ℕ
+endItems w s = item8 w (s .escapes) (s .continuations) ∷ item9 w (s .continuations) ∷ []
+
+abbrev pub rowItems : List ℕ → Sections → List ℕ
+rowItems w s = item5 w (s .states) (s .ascii) ∷ item6 w (s .states) (s .wide) ∷ 0 ∷ endItems w s
+
+abbrev pub items : List ℕ → Sections → List ℕ
+items w s =
+    item1 w (s .modes) (s .states)
+    ∷ item2 w (s .states) (s .ascii) (s .wide) (s .accepts)
+    ∷ 0
+    ∷ item4 w (s .states) (s .runs) (s .ascii)
+    ∷ rowItems w s
+
+-- the item of the first rule that is broken, or 0
+unfoldable pub firstItem : List Bool → List ℕ → ℕ
+firstItem [] is = 0
+firstItem (b ∷ bs) [] = 0
+firstItem (b ∷ bs) (i ∷ is) = pick b (firstItem bs is) i
+
+abbrev pub brokenItem : List ℕ → Sections → ℕ
+brokenItem w s = firstItem (rules w s) (items w s)

@@ -158,6 +158,7 @@ pub fn class(words: &[u32]) -> RangeClass
     if words.len() != 3 {
         return RangeClass::Refused(Refusal {
             number: FIELD,
+            item: 0,
             place: 0,
         });
     }
@@ -169,6 +170,7 @@ pub fn class(words: &[u32]) -> RangeClass
     if ranges.count == 0 {
         return RangeClass::Refused(Refusal {
             number: FIELD,
+            item: 0,
             place: 0,
         });
     }

@@ -58,7 +58,11 @@ pub fn refuse(number: u32, place: usize) -> RunAnswer
     ensures { λ r. ⌜ r ≡ answered (refused number place) ⌝ }
 {
     RunAnswer {
-        answer: Answered::Refused(Refusal { number, place }),
+        answer: Answered::Refused(Refusal {
+            number,
+            item: 0,
+            place,
+        }),
         ranges: run_ranges::none(),
     }
 }

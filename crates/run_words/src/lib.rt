@@ -20,6 +20,7 @@ fn field(at: usize) -> Answered
 {
     Answered::Refused(Refusal {
         number: FIELD,
+        item: 0,
         place: at,
     })
 }

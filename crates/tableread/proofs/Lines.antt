@@ -74,10 +74,10 @@ module _ {k : ℕ} {d new : List ℕ} where
   unfolding lineOf
   ok-line {m = m} {s} {w} p e l = rw e (all-put 111 107 (m ∷ s ∷ w ∷ []) (omega arith) p l)
 
-  pub no-line : {answer : Decoded} {r : Refusal} → Shown (lineWith (110 ∷ 111 ∷ []) (r .number ∷ r .place ∷ [])) 0 d k new → answer ≡ Refused r →
+  pub no-line : {answer : Decoded} {r : Refusal} → Shown (lineWith (110 ∷ 111 ∷ []) (r .number ∷ r .place ∷ r .item ∷ [])) 0 d k new → answer ≡ Refused r →
       length d ≡ 66 → take k new ≡ lineOf (said answer)
   unfolding lineOf
-  no-line {r = r} p e l = rw e (all-put 110 111 (r .number ∷ r .place ∷ []) (omega arith) p l)
+  no-line {r = r} p e l = rw e (all-put 110 111 (r .number ∷ r .place ∷ r .item ∷ []) (omega arith) p l)
 
 -- what the line of an answer is left with
 pub ruleset answering = (needs, page-in, page-many, ok-line, no-line)

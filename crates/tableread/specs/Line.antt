@@ -1,4 +1,5 @@
--- What `tableread` prints: document 01, "prints `ok MODES STATES WORDS` or `no NUMBER PLACE`". Assumes nothing.
+-- What `tableread` prints: document 01, "prints `ok MODES STATES WORDS` or `no NUMBER PLACE`", and document 02, "prints `no NUMBER PLACE ITEM`".
+-- Assumes nothing.
 use Prim.Native.Nat.{ℕ}
 use mathlib.Core.List.{List, [], _∷_, _++_}
 use Rattle.refusal.specs.Said.{Said, ok, noBy}
@@ -16,4 +17,4 @@ lineWith word numbers = word ++ (each spaced numbers ++ (10 ∷ []))
 -- `ok` or `no`, and the numbers of what is said
 unfoldable pub lineOf : Said → List ℕ
 lineOf (ok numbers) = lineWith (111 ∷ 107 ∷ []) numbers
-lineOf (noBy r) = lineWith (110 ∷ 111 ∷ []) (r .number ∷ r .place ∷ [])
+lineOf (noBy r) = lineWith (110 ∷ 111 ∷ []) (r .number ∷ r .place ∷ r .item ∷ [])

@@ -57,7 +57,11 @@ pub(crate) fn put_line(answer: Decoded, line: &mut [u8; LONGEST]) -> usize
         } => put_all(b"ok", &[modes as u64, states as u64, words as u64], line),
         Decoded::Refused(refusal) => put_all(
             b"no",
-            &[refusal.number as u64, refusal.place as u64],
+            &[
+                refusal.number as u64,
+                refusal.place as u64,
+                refusal.item as u64,
+            ],
             line,
         ),
     }

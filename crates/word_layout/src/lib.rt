@@ -27,7 +27,11 @@ pub enum Layout {
 fn unfound(number: u32, place: usize) -> Layout
     ensures { λ r. ⌜ r ≡ unfound number place ⌝ }
 {
-    Layout::Unfound(Refusal { number, place })
+    Layout::Unfound(Refusal {
+        number,
+        item: 0,
+        place,
+    })
 }
 
 // The section of a kind, which starts where the one before it ended.
@@ -124,12 +128,14 @@ pub fn find_within_limits(words: &[u32], numbers: usize) -> Layout
     if numbers < ROOM_NUMBERS {
         return Layout::Unfound(Refusal {
             number: ROOM,
+            item: 0,
             place: 0,
         });
     }
     if MAX_WORDS < words.len() {
         return Layout::Unfound(Refusal {
             number: LIMIT,
+            item: 0,
             place: MAX_WORDS,
         });
     }

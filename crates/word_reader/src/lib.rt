@@ -37,6 +37,7 @@ pub fn short(words: &[u32]) -> Place
 {
     Place::Refused(Refusal {
         number: SHORT,
+        item: 0,
         place: words.len(),
     })
 }
@@ -47,6 +48,7 @@ pub fn field(at: usize) -> Place
 {
     Place::Refused(Refusal {
         number: FIELD,
+        item: 0,
         place: at,
     })
 }

@@ -93,6 +93,7 @@ fn count_modes(count: Word, words: usize) -> Opening
         Word::Value(n) => Opening::Modes(n),
         Word::End => Opening::Refused(Refusal {
             number: SHORT,
+            item: 0,
             place: words,
         }),
     }
@@ -109,11 +110,13 @@ fn judge_opening(tag: Word, count: Word, words: usize) -> Opening
             }
             Opening::Refused(Refusal {
                 number: TAG,
+                item: 0,
                 place: 0,
             })
         }
         Word::End => Opening::Refused(Refusal {
             number: SHORT,
+            item: 0,
             place: words,
         }),
     }

@@ -1,4 +1,4 @@
--- Each answer is the first test that failed.
+-- Each answer is the first test that failed, with its item.
 use Rattle.rule_first.proofs.Breaking.{breaking}
 use Rattle.rule_first.proofs.first_broken_row.Statement.{statement}
 use Rattle.rule_first.proofs.first_broken_row.Tie as tie
@@ -12,8 +12,7 @@ first-broken-row-spec =
     (λ c κs. search breaking)
     (λ c κs. search breaking)
     (λ c κs. search breaking)
-    (λ c. search breaking)
-    (λ c. search breaking)
+    (λ c κs. search breaking)
     (λ c. search breaking)
     (λ c. search breaking)
     (λ c. search breaking)

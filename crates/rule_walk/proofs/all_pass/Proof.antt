@@ -1,4 +1,4 @@
--- The section lists nothing past the end; else as many pass as it lists.
+-- Each passes where as many do as the section lists.
 use Rattle.rule_walk.proofs.Asking.{listing}
 use Rattle.rule_walk.proofs.all_pass.Statement.{statement}
 use Rattle.rule_walk.proofs.all_pass.Tie as tie
@@ -7,9 +7,6 @@ pub all-pass-spec : {M : Type 1} → statement M
 all-pass-spec =
     tie.close
     (tie.spec
-    (λ c. search listing)
-    (λ c. search listing)
-    (λ c. search listing)
-    (λ c. search listing)
+    (λ c κs. search listing)
     (λ c κs. search listing)
     (λ c. search listing))

@@ -17,6 +17,7 @@ put-line-spec =
     (λ c. search answering)
     (λ c. search answering)
     (λ c. search answering)
+    (λ c. search answering)
     (λ c κs. search answering)
     (λ c. search answering)
     (λ c. search answering))
