@@ -12,9 +12,13 @@
  * `const`: a room, an output or a pool, which may not overlap the other lists of the call, and which
  * is written as far as its length and no further.
  *
- * An answer's `number` is 0 where the call was accepted. Else it is the refusal's number, `place`
- * tells where, every other field is 0, and so is every number of a room or an output that is lent.
- * A pool is no output: a refused one is left as it was.
+ * An answer's `number` is 0 where the call was accepted, and so are `item` and `place`. Else it is the
+ * refusal's number, `place` tells where, and `item` which mode, state, row or continuation breaks an
+ * index rule; every other field is 0, and so is every number of a room or an output that is lent. A
+ * pool is no output: a refused one is left as it was.
+ *
+ * The item is told with LEXER_DFA_INDEX alone, by the decoding of a table: it is 0 of every other
+ * refusal, and so in every answer of another call. An answer that has no place has no item either.
  */
 #ifndef LEXER_DFA_H
 #define LEXER_DFA_H
@@ -26,7 +30,7 @@
 extern "C" {
 #endif
 
-/* Refusals. */
+/* Refusals. The item is 0 where none is told. */
 enum {
     LEXER_DFA_ACCEPTED = 0,
     LEXER_DFA_SHORT = 1, /* the words end inside a run or a table; place: the number of words. The
@@ -36,7 +40,11 @@ enum {
     LEXER_DFA_LIMIT = 4, /* more than LEXER_DFA_MAX_WORDS words; place: 8192. Too many transitions or
                             intervals; place: the offset of the record that goes past */
     LEXER_DFA_LEFT = 5,  /* words remain behind the table; place: the first of them */
-    LEXER_DFA_INDEX = 6, /* an index rule is broken; place: the first such rule, 1 to 9 */
+    LEXER_DFA_INDEX = 6, /* an index rule is broken; place: the first such rule, 1 to 9; item: the
+                            first that breaks it, counted from 0, which is a mode (rule 1), a state
+                            (2 and 4), an ascii row (5), a wide row (6), an escape row (8) or a
+                            continuation (9); 0 for rules 3 and 7, by which runs and escape rows are
+                            as many as states */
     LEXER_DFA_ROOM = 7,  /* a room or an output is too short, or a pool for a new row; place: 0 */
     LEXER_DFA_STATE = 8, /* no such state, or a symbol past 127 for ascii_target; place: 0 */
     LEXER_DFA_NOT_TABLE = 9, /* a number that a lookup follows leads outside the room or its section,
@@ -73,6 +81,7 @@ enum {
 
 typedef struct {
     uint32_t number;
+    uint32_t item; /* 0 */
     size_t place;
     uint32_t range_class;
 } ClassAnswer;
@@ -91,6 +100,7 @@ ClassAnswer lexer_dfa_class(const uint32_t *words, size_t len);
  */
 typedef struct {
     uint32_t number;
+    uint32_t item; /* 0 */
     size_t place;
     size_t length;
     uint32_t first;
@@ -110,6 +120,7 @@ RunAnswer lexer_dfa_read_run(const uint32_t *words, size_t len, size_t at);
    not because the input ends. */
 typedef struct {
     uint32_t number;
+    uint32_t item; /* 0 */
     size_t place;
     uint32_t ran;
     size_t bytes;
@@ -127,6 +138,7 @@ ScanAnswer lexer_dfa_scan(const uint32_t *words, size_t len, const uint8_t *inpu
 /* How many modes and states a table has, and how many words. */
 typedef struct {
     uint32_t number;
+    uint32_t item; /* with INDEX, the first that breaks the rule; else 0 */
     size_t place;
     uint32_t modes;
     uint32_t states;
@@ -145,6 +157,7 @@ DecodeAnswer lexer_dfa_decode(const uint32_t *words, size_t len, uint32_t *room,
 /* How many numbers were written; those behind them are 0. */
 typedef struct {
     uint32_t number;
+    uint32_t item; /* 0 */
     size_t place;
     size_t length;
 } ListAnswer;
@@ -294,6 +307,7 @@ Span lexer_dfa_continuation_configs(const uint32_t *room, size_t len, uint32_t c
    empty ones dropped. */
 typedef struct {
     uint32_t number;
+    uint32_t item; /* 0 */
     size_t place;
     size_t transitions;
     size_t intervals;
@@ -308,6 +322,7 @@ TransitionsAnswer lexer_dfa_read_intervals(const uint8_t *list, size_t len, uint
 
 typedef struct {
     uint32_t number;
+    uint32_t item; /* 0 */
     size_t place;
     size_t segments;
 } SegmentsAnswer;
@@ -320,6 +335,7 @@ SegmentsAnswer lexer_dfa_char_segments(const uint8_t *list, size_t len, uint32_t
 /* How many masks were written, and of how many words each: one for 64 transitions. */
 typedef struct {
     uint32_t number;
+    uint32_t item; /* 0 */
     size_t place;
     size_t masks;
     size_t words;
@@ -340,6 +356,7 @@ MasksAnswer lexer_dfa_distinct_masks(const uint8_t *list, size_t len, uint32_t *
 /* How many numbers the wide row and the escape row have, three for each range. */
 typedef struct {
     uint32_t number;
+    uint32_t item; /* 0 */
     size_t place;
     size_t wide;
     size_t escape;

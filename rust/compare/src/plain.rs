@@ -1,5 +1,6 @@
-//! Document 01, read once more and as plainly as it goes: apart from the proved code, and apart
-//! from the original, which has no numbers and places of refusals. The library is held to these.
+//! Document 01, and what document 02 adds to it, read once more and as plainly as it goes: apart from
+//! the proved code, and apart from the original, which has no numbers, places and items of refusals.
+//! The library is held to these.
 
 pub mod coverage;
 mod decode;
@@ -20,8 +21,9 @@ pub use run::{classification, one_run, read_run, row, three_words};
 
 use lexer_dfa::Refusal;
 
-fn refusal<T>(number: u32, place: usize) -> Result<T, Refusal> {
-    Err(Refusal { number, place })
+/// A refusal by number and place: the item is "0 for rules 3 and 7 and for all other refusals".
+pub const fn refusal<T>(number: u32, place: usize) -> Result<T, Refusal> {
+    Err(Refusal { number, place, item: 0 })
 }
 
 fn short<T>(words: &[u32]) -> Result<T, Refusal> {

@@ -10,7 +10,7 @@
 //! | 1 classify | state u16, another target u16, 16 bytes of bits (symbol k loops where bit k % 8 of byte k / 8 is set), number of words u8, the run's words |
 //! | 2 class | three words, answer u8: 0 whitespace, 1 number, 2 identifier, 3 other, 255 refused |
 //! | 3 scan | number of words u8, words, input length u16, input, outcome u8: 0 refused, 1 no run, 2 ran; bytes u16, exit found u8 |
-//! | 4 decode | number of words u8, words, refusal u8: 0 accepted; place u8, modes u8, states u8, words u8, check u32 |
+//! | 4 decode | number of words u8, words, refusal u8: 0 accepted; place u8, item u8, modes u8, states u8, words u8, check u32 |
 //!
 //! The check of a room of 16,384 numbers: with a sum that starts at 0, add each number to it in
 //! turn and add up what the sum is after each, all in 32 bits.

@@ -23,6 +23,23 @@ pub fn middle(from: &mut Seeded) -> Table {
     build::table(from, states)
 }
 
+/// A table that has that many items or more for every index rule which asks something of single ones.
+pub fn many_sided(from: &mut Seeded, items: usize) -> Table {
+    loop {
+        let states = items + 2 + from.below(4);
+        let table = build::table(from, states);
+        let counts = [
+            table.modes.len(),
+            table.ascii_rows.len(),
+            table.wide_rows.len(),
+            table.continuations.len(),
+        ];
+        if counts.iter().all(|&count| count >= items) {
+            return table;
+        }
+    }
+}
+
 /// Some 50 states and exactly that many words, at least 7,000.
 pub fn full(from: &mut Seeded, length: usize) -> Table {
     let states = 40 + from.below(20);

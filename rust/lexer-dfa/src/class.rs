@@ -66,7 +66,7 @@ pub enum AsciiRangeClass {
 /// ```
 pub fn class(words: &[u32]) -> Result<AsciiRangeClass, Refusal> {
     let answer = ffi::class(words);
-    Refusal::unless_accepted(answer.number, answer.place)?;
+    Refusal::unless_accepted(answer.number, answer.item, answer.place)?;
     Ok(match answer.class {
         0 => AsciiRangeClass::Whitespace,
         1 => AsciiRangeClass::Number,

@@ -10,6 +10,7 @@ use crate::rows::RowBuffers;
 #[repr(C)]
 pub struct ClassAnswer {
     pub number: u32,
+    pub item: u32,
     pub place: usize,
     pub class: u32,
 }
@@ -17,6 +18,7 @@ pub struct ClassAnswer {
 #[repr(C)]
 pub struct RunAnswer {
     pub number: u32,
+    pub item: u32,
     pub place: usize,
     pub length: usize,
     pub first: u32,
@@ -27,6 +29,7 @@ pub struct RunAnswer {
 #[repr(C)]
 pub struct ScanAnswer {
     pub number: u32,
+    pub item: u32,
     pub place: usize,
     pub ran: u32,
     pub bytes: usize,
@@ -36,6 +39,7 @@ pub struct ScanAnswer {
 #[repr(C)]
 pub struct DecodeAnswer {
     pub number: u32,
+    pub item: u32,
     pub place: usize,
     pub modes: u32,
     pub states: u32,
@@ -51,6 +55,7 @@ pub struct LookupAnswer {
 #[repr(C)]
 pub struct ListAnswer {
     pub number: u32,
+    pub item: u32,
     pub place: usize,
     pub length: usize,
 }
@@ -88,6 +93,7 @@ pub struct ContinuationAnswer {
 #[repr(C)]
 pub struct TransitionsAnswer {
     pub number: u32,
+    pub item: u32,
     pub place: usize,
     pub transitions: usize,
     pub intervals: usize,
@@ -96,6 +102,7 @@ pub struct TransitionsAnswer {
 #[repr(C)]
 pub struct SegmentsAnswer {
     pub number: u32,
+    pub item: u32,
     pub place: usize,
     pub segments: usize,
 }
@@ -103,6 +110,7 @@ pub struct SegmentsAnswer {
 #[repr(C)]
 pub struct MasksAnswer {
     pub number: u32,
+    pub item: u32,
     pub place: usize,
     pub masks: usize,
     pub words: usize,
@@ -111,6 +119,7 @@ pub struct MasksAnswer {
 #[repr(C)]
 pub struct RowsAnswer {
     pub number: u32,
+    pub item: u32,
     pub place: usize,
     pub wide: usize,
     pub escape: usize,
@@ -407,6 +416,7 @@ lists! {
 #[cfg(test)]
 mod tests {
     use super::*;
+    use std::mem::offset_of;
 
     /// What the header promises of a refused answer: every other field is 0.
     #[test]
@@ -415,15 +425,15 @@ mod tests {
         row[48..58].fill(7);
         for length in [0, 58, 127, 129] {
             let answer = classify(&row[..length], 7);
-            assert_eq!((answer.number, answer.place, answer.length), (3, 0, 0));
+            assert_eq!((answer.number, answer.item, answer.place, answer.length), (3, 0, 0, 0));
             assert_eq!([answer.first, answer.second, answer.third], [0; 3]);
         }
         let words: [&[u32]; 5] = [&[], &[261, 14640], &[261, 14640, 1], &[6], &[8706, 0]];
         for words in words {
             let answer = class(words);
-            assert_eq!((answer.number, answer.place, answer.class), (3, 0, 0));
+            assert_eq!((answer.number, answer.item, answer.place, answer.class), (3, 0, 0, 0));
             let answer = scan(words, b"10 ply");
-            assert_eq!((answer.number, answer.place, answer.bytes), (3, 0, 0));
+            assert_eq!((answer.number, answer.item, answer.place, answer.bytes), (3, 0, 0, 0));
             assert_eq!((answer.ran, answer.found_exit), (0, 0));
         }
         for words in &words[..4] {
@@ -442,9 +452,47 @@ mod tests {
             let mut room = vec![7; room_length];
             let answer = decode(&words[..length], &mut room);
             assert_ne!(answer.number, 0);
+            assert_eq!(answer.item, 0);
             assert_eq!((answer.modes, answer.states, answer.words), (0, 0, 0));
             assert!(room.iter().all(|&number| number == 0));
         }
+    }
+
+    /// A table that breaks a rule has the item that breaks it, and nothing else of the table is left.
+    #[test]
+    fn a_broken_rule_has_its_item() {
+        // Of three modes the second starts at a state that is not there, and so does the third.
+        let modes = [0x4C44_0001, 3, u32::MAX, 0, 5, 0, 0, 0, 0, 0, 0, 0];
+        // Two escape rows, and no states.
+        let escape_rows = [0x4C44_0001, 0, 0, 0, 0, 0, 0, 2, 9, 0, 9, 0, 0];
+        // Of two continuations the second has a context that refers to itself.
+        let contexts = [0x4C44_0001, 0, 0, 0, 0, 0, 0, 0, 2, 0, 0, 1, 0, 1, 0, 0];
+        let broken: [(&[u32], _); 3] =
+            [(&modes, (1, 1)), (&escape_rows, (7, 0)), (&contexts, (9, 1))];
+        for (words, (rule, item)) in broken {
+            let mut room = vec![7; 16_384];
+            let answer = decode(words, &mut room);
+            assert_eq!((answer.number, answer.item, answer.place), (6, item, rule));
+            assert_eq!((answer.modes, answer.states, answer.words), (0, 0, 0));
+            assert!(room.iter().all(|&number| number == 0));
+        }
+    }
+
+    /// The item stands where padding stood: no answer is longer for it, and nothing else has moved.
+    #[test]
+    fn an_item_takes_no_place_of_its_own() {
+        macro_rules! laid_out {
+            ($($answer:ident $size:literal),*) => {$(
+                assert_eq!(size_of::<$answer>(), $size, stringify!($answer));
+                let offsets =
+                    [offset_of!($answer, number), offset_of!($answer, item), offset_of!($answer, place)];
+                assert_eq!(offsets, [0, 4, 8], stringify!($answer));
+            )*};
+        }
+        laid_out!(
+            ClassAnswer 24, RunAnswer 40, ScanAnswer 40, DecodeAnswer 32, ListAnswer 24,
+            TransitionsAnswer 32, SegmentsAnswer 24, MasksAnswer 32, RowsAnswer 32
+        );
     }
 
     /// An accepted table's place is 0.
@@ -452,7 +500,7 @@ mod tests {
     fn an_accepted_table_has_its_counts() {
         let mut room = vec![7; 16_385];
         let answer = decode(&[0x4C44_0001, 1, u32::MAX, 0, 0, 0, 0, 0, 0, 0], &mut room);
-        assert_eq!((answer.number, answer.place), (0, 0));
+        assert_eq!((answer.number, answer.item, answer.place), (0, 0, 0));
         assert_eq!((answer.modes, answer.states, answer.words), (1, 0, 10));
     }
 
@@ -464,10 +512,10 @@ mod tests {
         assert_eq!(decode(&words, &mut room).number, 0);
         let mut out = [7; 11];
         let answer = encode(&room, &mut out);
-        assert_eq!((answer.number, answer.place, answer.length), (0, 0, 10));
+        assert_eq!((answer.number, answer.item, answer.place, answer.length), (0, 0, 0, 10));
         assert_eq!((&out[..10], out[10]), (&words[..], 0));
         let answer = encode(&room, &mut out[..9]);
-        assert_eq!((answer.number, answer.place, answer.length), (7, 0, 0));
+        assert_eq!((answer.number, answer.item, answer.place, answer.length), (7, 0, 0, 0));
         assert_eq!(out[..9], [0; 9]);
     }
 
@@ -490,7 +538,7 @@ mod tests {
             ];
             assert!(values.iter().all(|answer| (answer.number, answer.value) == (9, 0)));
             let answer = ascii_run(room, 0);
-            assert_eq!((answer.number, answer.place, answer.length), (9, 0, 0));
+            assert_eq!((answer.number, answer.item, answer.place, answer.length), (9, 0, 0, 0));
             assert_eq!([answer.first, answer.second, answer.third], [0; 3]);
             let answer = scan_ascii_run(room, 0, b"10 ply");
             assert_eq!((answer.number, answer.bytes, answer.stop), (9, 0, 0));
@@ -506,7 +554,7 @@ mod tests {
             for list in [compiled_mode_flags, mode_state_counts, encode] {
                 let mut out = [7; 3];
                 let answer = list(room, &mut out);
-                assert_eq!((answer.number, answer.place, answer.length), (9, 0, 0));
+                assert_eq!((answer.number, answer.item, answer.place, answer.length), (9, 0, 0, 0));
                 assert_eq!(out, [0; 3]);
             }
         }
@@ -517,19 +565,19 @@ mod tests {
     fn a_refused_list_is_empty() {
         let list = [5, 0, 0, 6, 0, 0];
         let answer = read_transitions(&list);
-        assert_eq!((answer.number, answer.place), (3, 3));
+        assert_eq!((answer.number, answer.item, answer.place), (3, 0, 3));
         assert_eq!((answer.transitions, answer.intervals), (0, 0));
         let (mut numbers, mut masks, mut distinct) = ([7; 4096], [7; 8192], [7; 8192]);
         let answer = read_intervals(&list, &mut numbers);
-        assert_eq!((answer.number, answer.place), (3, 3));
+        assert_eq!((answer.number, answer.item, answer.place), (3, 0, 3));
         assert_eq!((answer.transitions, answer.intervals), (0, 0));
         let answer = char_segments(&list, &mut numbers);
-        assert_eq!((answer.number, answer.place, answer.segments), (3, 3, 0));
+        assert_eq!((answer.number, answer.item, answer.place, answer.segments), (3, 0, 3, 0));
         let answer = segment_mask_matrix(&list, &mut numbers, &mut masks);
-        assert_eq!((answer.number, answer.place), (3, 3));
+        assert_eq!((answer.number, answer.item, answer.place), (3, 0, 3));
         assert_eq!((answer.masks, answer.words), (0, 0));
         let answer = distinct_masks(&list, &mut numbers, &mut masks, &mut distinct);
-        assert_eq!((answer.number, answer.place), (3, 3));
+        assert_eq!((answer.number, answer.item, answer.place), (3, 0, 3));
         assert_eq!((answer.masks, answer.words), (0, 0));
         assert!(numbers.iter().all(|&number| number == 0));
         assert!(masks.iter().chain(&distinct).all(|&word| word == 0));
@@ -544,7 +592,10 @@ mod tests {
             escape: &mut escape,
         };
         let answer = build_rows(&list[..3], &[], &[], lent);
-        assert_eq!((answer.number, answer.place, answer.wide, answer.escape), (11, 0, 0, 0));
+        assert_eq!(
+            (answer.number, answer.item, answer.place, answer.wide, answer.escape),
+            (11, 0, 0, 0, 0)
+        );
         assert!(ascii.iter().all(|&target| target == 0));
         assert!(wide.iter().chain(&escape).all(|&number| number == 0));
 
@@ -562,13 +613,13 @@ mod tests {
     #[test]
     fn an_accepted_answer_has_only_its_own_words() {
         let answer = read_run(&[8706, 5, 6, 7], 0);
-        assert_eq!((answer.number, answer.place, answer.length), (0, 0, 1));
+        assert_eq!((answer.number, answer.item, answer.place, answer.length), (0, 0, 0, 1));
         assert_eq!([answer.first, answer.second, answer.third], [8706, 0, 0]);
         let answer = classify(&[7; 128], 7);
-        assert_eq!((answer.number, answer.place, answer.length), (0, 0, 1));
+        assert_eq!((answer.number, answer.item, answer.place, answer.length), (0, 0, 0, 1));
         assert_eq!([answer.first, answer.second, answer.third], [1, 0, 0]);
         let answer = scan(&[0], b"10 ply");
-        assert_eq!((answer.number, answer.place, answer.bytes), (0, 0, 0));
+        assert_eq!((answer.number, answer.item, answer.place, answer.bytes), (0, 0, 0, 0));
         assert_eq!((answer.ran, answer.found_exit), (0, 0));
     }
 }

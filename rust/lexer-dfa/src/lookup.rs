@@ -47,7 +47,7 @@ pub struct ContinuationRecord<'a> {
 
 #[inline]
 fn value(answer: ffi::LookupAnswer) -> Result<u32, Refusal> {
-    Refusal::unless_accepted(answer.number, 0)?;
+    Refusal::unless_accepted(answer.number, 0, 0)?;
     Ok(answer.value)
 }
 
@@ -64,7 +64,7 @@ fn target(answer: ffi::LookupAnswer) -> Result<u16, Refusal> {
 }
 
 fn listed(answer: ffi::ListAnswer) -> Result<usize, Refusal> {
-    Refusal::unless_accepted(answer.number, answer.place)?;
+    Refusal::unless_accepted(answer.number, answer.item, answer.place)?;
     Ok(answer.length)
 }
 
@@ -170,7 +170,7 @@ pub fn scan_length(
     input: &[u8],
 ) -> Result<Option<AsciiRunScan>, Refusal> {
     let answer = ffi::scan_ascii_run(room, state, input);
-    Refusal::unless_accepted(answer.number, 0)?;
+    Refusal::unless_accepted(answer.number, 0, 0)?;
     let scan = AsciiRunScan { bytes: answer.bytes, found_exit: answer.stop == 2 };
     Ok((answer.stop != 0).then_some(scan))
 }
@@ -178,7 +178,7 @@ pub fn scan_length(
 /// The accept of that number, where there is one.
 pub fn accept_record(room: &[u32], accept: u32) -> Result<Option<AcceptRecord<'_>>, Refusal> {
     let answer = ffi::accept_record(room, accept);
-    Refusal::unless_accepted(answer.number, 0)?;
+    Refusal::unless_accepted(answer.number, 0, 0)?;
     Ok((answer.found != 0).then(|| AcceptRecord {
         rule: answer.rule,
         consumed_eof: answer.consumed_eof != 0,
@@ -192,7 +192,7 @@ pub fn continuation_record(
     continuation: u32,
 ) -> Result<Option<ContinuationRecord<'_>>, Refusal> {
     let answer = ffi::continuation_record(room, continuation);
-    Refusal::unless_accepted(answer.number, 0)?;
+    Refusal::unless_accepted(answer.number, 0, 0)?;
     Ok((answer.found != 0).then(|| ContinuationRecord {
         contexts: threes(room, ffi::continuation_contexts(room, continuation)),
         config_count: answer.configs,

@@ -54,6 +54,6 @@ pub fn intern_wide(pool: &mut [u32], rows: usize, row: &[u32]) -> Result<usize, 
 }
 
 fn interned(answer: ffi::InternAnswer) -> Result<usize, Refusal> {
-    Refusal::unless_accepted(answer.number, 0)?;
+    Refusal::unless_accepted(answer.number, 0, 0)?;
     Ok(answer.row)
 }

@@ -94,7 +94,7 @@ pub fn read_intervals(list: &[u8], out: &mut [u32]) -> Result<Counted, Refusal> 
 /// end of an interval to before the next. Asks for [`SEGMENT_NUMBERS`].
 pub fn char_segments(list: &[u8], out: &mut [u32]) -> Result<usize, Refusal> {
     let answer = ffi::char_segments(list, out);
-    Refusal::unless_accepted(answer.number, answer.place)?;
+    Refusal::unless_accepted(answer.number, answer.item, answer.place)?;
     Ok(answer.segments)
 }
 
@@ -133,7 +133,7 @@ pub fn build_rows(
     lent: RowBuffers<'_>,
 ) -> Result<Built, Refusal> {
     let answer = ffi::build_rows(list, targets, continuations, lent);
-    Refusal::unless_accepted(answer.number, answer.place)?;
+    Refusal::unless_accepted(answer.number, answer.item, answer.place)?;
     Ok(Built { wide: answer.wide, escape: answer.escape })
 }
 
@@ -228,11 +228,11 @@ impl Default for RowBuilder {
 }
 
 fn counted(answer: ffi::TransitionsAnswer) -> Result<Counted, Refusal> {
-    Refusal::unless_accepted(answer.number, answer.place)?;
+    Refusal::unless_accepted(answer.number, answer.item, answer.place)?;
     Ok(Counted { transitions: answer.transitions, intervals: answer.intervals })
 }
 
 fn masked(answer: ffi::MasksAnswer) -> Result<Masked, Refusal> {
-    Refusal::unless_accepted(answer.number, answer.place)?;
+    Refusal::unless_accepted(answer.number, answer.item, answer.place)?;
     Ok(Masked { masks: answer.masks, words: answer.words })
 }

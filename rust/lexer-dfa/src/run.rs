@@ -89,7 +89,7 @@ impl AsciiRun {
     }
 
     pub(crate) fn from_answer(answer: ffi::RunAnswer) -> Result<AsciiRun, Refusal> {
-        Refusal::unless_accepted(answer.number, answer.place)?;
+        Refusal::unless_accepted(answer.number, answer.item, answer.place)?;
         Ok(AsciiRun { words: [answer.first, answer.second, answer.third], length: answer.length })
     }
 }
@@ -118,7 +118,7 @@ pub struct AsciiRunScan {
 /// ```
 pub fn scan(words: &[u32], input: &[u8]) -> Result<Option<AsciiRunScan>, Refusal> {
     let answer = ffi::scan(words, input);
-    Refusal::unless_accepted(answer.number, answer.place)?;
+    Refusal::unless_accepted(answer.number, answer.item, answer.place)?;
     let scan = AsciiRunScan { bytes: answer.bytes, found_exit: answer.found_exit != 0 };
     Ok((answer.ran != 0).then_some(scan))
 }

@@ -242,6 +242,9 @@ impl fmt::Debug for Table {
 /// | LEFT | words remain behind the last section | the first of them |
 /// | INDEX | the words read well, and an index rule is broken | the rule's number, 1 to 9 |
 ///
+/// Of INDEX the refusal's [item](Refusal::item) is the first mode, state, row or continuation that
+/// breaks the rule. For rules 3 and 7 it is 0, and for all other refusals.
+///
 /// Then the whole room is 0, whatever its length. Accepted, the room holds the table, and 0 behind
 /// it.
 ///
@@ -260,7 +263,7 @@ impl fmt::Debug for Table {
 /// ```
 pub fn decode_into(words: &[u32], room: &mut [u32]) -> Result<Decoded, Refusal> {
     let answer = ffi::decode(words, room);
-    Refusal::unless_accepted(answer.number, answer.place)?;
+    Refusal::unless_accepted(answer.number, answer.item, answer.place)?;
     let (modes, states) = (answer.modes as usize, answer.states as usize);
     Ok(Decoded { modes, states, words: answer.words })
 }
@@ -294,6 +297,6 @@ pub fn decode_into(words: &[u32], room: &mut [u32]) -> Result<Decoded, Refusal> 
 /// ```
 pub fn encode_into(room: &[u32], out: &mut [u32]) -> Result<usize, Refusal> {
     let answer = ffi::encode(room, out);
-    Refusal::unless_accepted(answer.number, answer.place)?;
+    Refusal::unless_accepted(answer.number, answer.item, answer.place)?;
     Ok(answer.length)
 }

@@ -75,7 +75,7 @@ pub fn list_bytes(list: &[Transition]) -> Result<Vec<u8>, Refusal> {
 
 fn put_pairs(bytes: &mut Vec<u8>, tag: u8, pairs: &[(i32, i32)]) -> Result<(), Refusal> {
     if pairs.len() > MAX_PAIRS {
-        return Err(Refusal { number: 4, place: bytes.len() });
+        return Err(Refusal { number: 4, place: bytes.len(), item: 0 });
     }
     let numbers: Vec<i32> = pairs.iter().flat_map(|&(low, high)| [low, high]).collect();
     put_record(bytes, tag, &numbers);

@@ -2,7 +2,7 @@
 
 use super::read::{Read, read};
 use super::refusal;
-use super::rules::first_broken;
+use super::rules::{Broken, first_broken};
 use lexer_dfa::{Decoded, Refusal};
 
 pub fn decode(words: &[u32], room_length: usize) -> Result<Decoded, Refusal> {
@@ -19,7 +19,7 @@ fn accepted(words: &[u32], room_length: usize) -> Result<Read, Refusal> {
     }
     let read = read(words)?;
     match first_broken(&read.table) {
-        Some(rule) => refusal(6, rule),
+        Some(Broken { rule, item }) => Err(Refusal { number: 6, place: rule, item: item as u32 }),
         None => Ok(read),
     }
 }

@@ -1,16 +1,24 @@
 //! The page that `tableshow` prints: the table's line, a line for each mode, and what each state
-//! does; or the one line of a refusal.
+//! does; or the one line of a refusal. And the line that `tableread` prints.
 
-use super::read::read;
+use super::read;
 use super::table::{DEAD, ESCAPE, NONE, Range, Table};
 use super::{decode, refusal};
-use lexer_dfa::{ROOM_NUMBERS, Refusal};
+use lexer_dfa::{Decoded, ROOM_NUMBERS, Refusal};
 
 /// What is printed for an input of these bytes.
 pub fn shown(bytes: &[u8]) -> String {
     match words_of(bytes).and_then(|words| Ok((accepted(&words)?, words.len()))) {
         Ok((table, words)) => page(&table, words),
         Err(refusal) => refusal_line(refusal),
+    }
+}
+
+/// "prints `ok MODES STATES WORDS`" of document 01, or "`no NUMBER PLACE ITEM`" of document 02.
+pub fn read(bytes: &[u8]) -> String {
+    match words_of(bytes).and_then(|words| decode(&words, ROOM_NUMBERS)) {
+        Ok(Decoded { modes, states, words }) => format!("ok {modes} {states} {words}\n"),
+        Err(Refusal { number, place, item }) => format!("no {number} {place} {item}\n"),
     }
 }
 
@@ -29,10 +37,10 @@ fn words_of(bytes: &[u8]) -> Result<Vec<u32>, Refusal> {
 
 fn accepted(words: &[u32]) -> Result<Table, Refusal> {
     decode(words, ROOM_NUMBERS)?;
-    Ok(read(words)?.table)
+    Ok(read::read(words)?.table)
 }
 
-fn refusal_line(Refusal { number, place }: Refusal) -> String {
+fn refusal_line(Refusal { number, place, .. }: Refusal) -> String {
     let reason = match (number, place) {
         (1, _) => "SHORT, the words end inside a field or record",
         (2, _) => "TAG, the first word is not the tag of a table",

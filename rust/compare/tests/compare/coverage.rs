@@ -4,7 +4,7 @@ use crate::rooms;
 use compare::plain::{self, coverage as by_ranges};
 use compare::seeded::Seeded;
 use compare::tables;
-use lexer_dfa::{ROOM_NUMBERS, Refusal, Table, lookup};
+use lexer_dfa::{ROOM_NUMBERS, Table, lookup};
 
 /// Every state of seeded tables of every size, and states that are not there.
 pub fn seeded() -> usize {
@@ -24,7 +24,7 @@ pub fn seeded() -> usize {
             assert_eq!(ours.coverage(state), Ok(expected), "state {state} of {table:?}");
         }
         for state in [states, 65533, 65534, 65535] {
-            assert_eq!(ours.coverage(state), Err(Refusal { number: 8, place: 0 }));
+            assert_eq!(ours.coverage(state), plain::refusal(8, 0));
         }
         cases += usize::from(states) + 4;
     }
@@ -41,7 +41,7 @@ pub fn strange() -> usize {
         let expected = by_ranges::coverage(room, state);
         assert_eq!(lookup::coverage(room, state), expected, "{:?}", &room[..room.len().min(400)]);
         cases += 1;
-        refused += usize::from(expected == Err(Refusal { number: 9, place: 0 }));
+        refused += usize::from(expected == plain::refusal(9, 0));
     };
     for _ in 0..TABLES {
         let words = tables::words(&tables::small(&mut from));

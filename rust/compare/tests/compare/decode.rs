@@ -1,5 +1,5 @@
-//! Decoding by the plain reading of document 01: the answer or the refusal by number and place, and
-//! every number of the room.
+//! Decoding by the plain reading of document 01: the answer or the refusal by number, place and item,
+//! and every number of the room.
 
 use crate::{lists, tables};
 use compare::plain;
@@ -18,6 +18,12 @@ impl Judge {
 
     fn judged(&mut self, words: &[u32]) {
         let _ = self.answer(words);
+    }
+
+    /// The rule that was broken is the one that is named, and so is the item.
+    fn judged_broken(&mut self, words: &[u32], rule: usize, item: usize) {
+        let named = Refusal { number: 6, place: rule, item: item as u32 };
+        assert_eq!(self.answer(words), Err(named), "{words:?}");
     }
 
     /// The answer, which is judged with the room.
@@ -44,7 +50,7 @@ fn is_zero(room: &[u32]) -> bool {
 pub fn examples() -> usize {
     let mut judge = Judge::with_room(ROOM_NUMBERS);
     let empty = [TAG, 0, 0, 0, 0, 0, 0, 0, 0, 0];
-    let refused = |number, place| Err(Refusal { number, place });
+    let refused = plain::refusal;
     let accepted = |modes, states, words| Ok(Decoded { modes, states, words });
     assert_eq!(judge.answer(&empty[..9]), accepted(0, 0, 9));
     assert_eq!(judge.answer(&empty[..8]), refused(1, 8));
@@ -77,12 +83,19 @@ pub fn each_word_damaged() -> usize {
     tables::each_word_damaged(|words| judge.judged(words))
 }
 
-/// The rule that was broken is the one that is named.
 pub fn broken_rules() -> usize {
     let mut judge = Judge::with_room(ROOM_NUMBERS);
-    tables::each_broken(|words, rule| {
-        assert_eq!(judge.answer(words), Err(Refusal { number: 6, place: rule }), "{words:?}");
-    })
+    tables::each_broken(|words, rule, item| judge.judged_broken(words, rule, item))
+}
+
+pub fn broken_items() -> usize {
+    let mut judge = Judge::with_room(ROOM_NUMBERS);
+    tables::each_broken_item(|words, rule, item| judge.judged_broken(words, rule, item))
+}
+
+pub fn broken_crowds() -> usize {
+    let mut judge = Judge::with_room(ROOM_NUMBERS);
+    tables::each_broken_crowd(|words, rule, item| judge.judged_broken(words, rule, item))
 }
 
 pub fn crowded() -> usize {

@@ -27,7 +27,7 @@ pub fn strange() -> usize {
         let lent = from.pick(&[count, count + 1, count + 60, count.saturating_sub(1), 0]);
         match judged(room, lent) {
             Ok(_) => written += 1,
-            Err(Refusal { number: 7, place: 0 }) => short += 1,
+            Err(Refusal { number: 7, place: 0, item: 0 }) => short += 1,
             Err(_) => no_table += 1,
         }
     });
@@ -44,7 +44,7 @@ pub fn outputs() -> usize {
         decode_into(&words, &mut room).expect("a table");
         for lent in 0..words.len() + 4 {
             let answer = judged(&room, lent);
-            let short = Err(Refusal { number: 7, place: 0 });
+            let short = plain::refusal(7, 0);
             assert_eq!(answer, if lent < words.len() { short } else { Ok(words.len()) });
             cases += 1;
         }

@@ -1,5 +1,5 @@
-//! Holds the proved library to the original and to the plain reading of document 01, and the pages
-//! of the program `tableshow` to a plain rendering.
+//! Holds the proved library to the original and to the plain reading of document 01, and what the
+//! programs `tableshow` and `tableread` print to a plain rendering.
 //!
 //!     cargo test --release [-p compare] [-- WORD]
 //!
@@ -73,6 +73,10 @@ fn checks() -> Vec<(&'static str, Result<Check, String>)> {
         ("decode: each word damaged, by the plain reading", Ok(decode::each_word_damaged)),
         ("decode: broken rules, by the original", live!(decode::broken_rules)),
         ("decode: broken rules, by the plain reading", Ok(decode::broken_rules)),
+        ("decode: broken items, by the original", live!(decode::broken_items)),
+        ("decode: broken items, by the plain reading", Ok(decode::broken_items)),
+        ("decode: broken in a crowd, by the original", live!(decode::broken_crowds)),
+        ("decode: broken in a crowd, by the plain reading", Ok(decode::broken_crowds)),
         ("decode: crowded sections, by the original", live!(decode::crowded)),
         ("decode: crowded sections, by the plain reading", Ok(decode::crowded)),
         ("decode: every short list, by the original", live!(decode::short_lists)),
@@ -108,8 +112,9 @@ fn checks() -> Vec<(&'static str, Result<Check, String>)> {
         ("pools: seeded pools, by the plain reading", Ok(pools::seeded)),
         ("pools: every small pool, by the plain reading", Ok(pools::small_pools)),
         ("samples: what stands in samples/", Ok(samples::are_written)),
-        ("show: pages of seeded tables, by plain rendering", program(show::seeded)),
-        ("show: pages of damaged inputs, by plain rendering", program(show::damaged)),
+        ("show: pages of seeded tables, by plain rendering", program("tableshow", show::seeded)),
+        ("show: pages of damaged inputs, by plain rendering", program("tableshow", show::damaged)),
+        ("show: lines of tableread, by plain rendering", program("tableread", show::lines)),
         ("record: the samples of replay, by the original", sample()),
     ]
 }
@@ -128,10 +133,10 @@ fn sample() -> Result<Check, String> {
     live!(sample::is_recorded)
 }
 
-/// A check that runs the program `tableshow`.
-fn program(check: Check) -> Result<Check, String> {
-    if !std::path::Path::new(show::PROGRAM).exists() {
-        return Err("target/bin/tableshow is not there (rt check tableshow)".to_string());
+/// A check that runs a program.
+fn program(name: &str, check: Check) -> Result<Check, String> {
+    if !std::path::Path::new(&format!("{}{name}", show::PROGRAMS)).exists() {
+        return Err(format!("target/bin/{name} is not there (rt check {name})"));
     }
     Ok(check)
 }

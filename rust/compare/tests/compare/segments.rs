@@ -2,7 +2,7 @@
 //! the refusal, and every number of every buffer.
 
 use compare::lists;
-use compare::plain::transitions as plain;
+use compare::plain::{refusal, transitions as plain};
 use compare::seeded::Seeded;
 use lexer_dfa::rows::{Counted, INTERVAL_NUMBERS, MASK_WORDS, Masked, SEGMENT_NUMBERS};
 use lexer_dfa::{
@@ -135,7 +135,7 @@ impl Judge {
     }
 }
 
-const ROOM: Result<(), Refusal> = Err(Refusal { number: 7, place: 0 });
+const ROOM: Result<(), Refusal> = refusal(7, 0);
 
 /// All lists of one byte and of two, and by `read_transitions` alone all of three.
 pub fn short_lists() -> usize {
@@ -232,7 +232,7 @@ pub fn limits() -> usize {
     let mut from = Seeded::new(53);
     let mut judge = Judge::new(0);
     let mut cases = 0;
-    let limit = |place| Err(Refusal { number: 4, place });
+    let limit = |place| refusal(4, place);
     let mut judged = |list: &[u8], expected: Result<(), Refusal>| {
         assert_eq!(judge.held_plainly(list), expected);
         cases += 1;
@@ -258,7 +258,7 @@ pub fn limits() -> usize {
         (&[3, 8, 0, 1, 0, 0, 0, 0, 0, 0, 0], 10),
         (&[5, 0, 0], 4),
     ] {
-        judged(&[&full, record].concat(), Err(Refusal { number, place: 768 }));
+        judged(&[&full, record].concat(), refusal(number, 768));
     }
 
     for _ in 0..12 {

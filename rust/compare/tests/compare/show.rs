@@ -1,6 +1,6 @@
-//! The program `tableshow`, byte for byte, by a plain rendering of the same page.
+//! The programs `tableshow` and `tableread`, byte for byte, by a plain rendering of the same page or line.
 
-use compare::plain::show::{page, shown};
+use compare::plain::show::{page, read, shown};
 use compare::plain::table::{Continuation, DEAD, EscapeRow, NONE, Range, Table};
 use compare::samples::{one_state, ply_book};
 use compare::seeded::Seeded;
@@ -8,27 +8,28 @@ use compare::tables::{self, broken, build, damage};
 use std::io::{ErrorKind, Write};
 use std::process::{Command, Stdio};
 
-pub const PROGRAM: &str = concat!(env!("CARGO_MANIFEST_DIR"), "/../../target/bin/tableshow");
+/// Where programs stand.
+pub const PROGRAMS: &str = concat!(env!("CARGO_MANIFEST_DIR"), "/../../target/bin/");
 
 /// Runs a program, on any processor.
 const RUN: &str = concat!(env!("CARGO_MANIFEST_DIR"), "/../../run");
 
 /// What the program prints for an input.
-fn printed(input: &[u8]) -> String {
+fn printed(name: &str, input: &[u8]) -> String {
     let mut program = Command::new(RUN)
-        .arg("tableshow")
+        .arg(name)
         .stdin(Stdio::piped())
         .stdout(Stdio::piped())
         .spawn()
-        .expect("tableshow can be run");
+        .expect("the program can be run");
     // It reads all that it takes before it prints; of a long input it does not take the end.
     match program.stdin.take().expect("an input").write_all(input) {
         Err(error) if error.kind() != ErrorKind::BrokenPipe => panic!("{error}"),
         _ => {}
     }
-    let output = program.wait_with_output().expect("tableshow ends");
-    assert!(output.status.success(), "tableshow ends with {}", output.status);
-    String::from_utf8(output.stdout).expect("a page is a text")
+    let output = program.wait_with_output().expect("the program ends");
+    assert!(output.status.success(), "{name} ends with {}", output.status);
+    String::from_utf8(output.stdout).expect("what is printed is a text")
 }
 
 fn bytes(words: &[u32]) -> Vec<u8> {
@@ -36,15 +37,15 @@ fn bytes(words: &[u32]) -> Vec<u8> {
 }
 
 /// The first line that differs is told, as a page may have thousands.
-fn judged(input: &[u8], expected: &str) {
-    let printed = printed(input);
+fn judged(name: &str, input: &[u8], expected: &str) {
+    let printed = printed(name, input);
     if printed == expected {
         return;
     }
     let pairs = printed.lines().zip(expected.lines());
     let line = pairs.take_while(|(ours, plain)| ours == plain).count();
     let (ours, plain) = (printed.lines().nth(line), expected.lines().nth(line));
-    panic!("line {}: tableshow prints {ours:?}, the plain rendering {plain:?}", line + 1);
+    panic!("line {}: {name} prints {ours:?}, the plain rendering {plain:?}", line + 1);
 }
 
 /// Each of these texts must have been on some page.
@@ -72,7 +73,7 @@ pub fn seeded() -> usize {
     for table in &all {
         let words = tables::words(table);
         let expected = page(table, words.len());
-        judged(&bytes(&words), &expected);
+        judged("tableshow", &bytes(&words), &expected);
         pages.push(expected);
     }
     all_seen(&pages, &TELLING);
@@ -139,8 +140,8 @@ fn long_row(ranges: u32, to: u32) -> Vec<Range> {
 }
 
 /// Tables with a damage or more, tables that break a rule, inputs with spare bytes, and inputs of
-/// too many words; every refusal that decoding gives is among them.
-pub fn damaged() -> usize {
+/// too many words.
+fn damaged_inputs() -> Vec<Vec<u8>> {
     let mut from = Seeded::new(42);
     let mut inputs = vec![Vec::new(), vec![0; 4]];
     for _ in 0..300 {
@@ -152,10 +153,10 @@ pub fn damaged() -> usize {
         }
         inputs.push(bytes(&copy));
     }
-    for (_, way) in broken::WAYS.repeat(3) {
+    for way in broken::WAYS.repeat(3) {
         let states = 1 + from.below(3);
         let mut table = build::table(&mut from, states);
-        way(&mut from, &mut table);
+        way.go(&mut from, &mut table);
         inputs.push(bytes(&tables::words(&table)));
     }
     for spare in [1, 2, 3].repeat(20) {
@@ -171,16 +172,46 @@ pub fn damaged() -> usize {
         input.resize(length, 0);
         inputs.push(input);
     }
+    inputs
+}
 
+/// Pages of these; every refusal that decoding gives is among them.
+pub fn damaged() -> usize {
+    let inputs = damaged_inputs();
     let mut lines = Vec::new();
     for input in &inputs {
         let expected = shown(input);
-        judged(input, &expected);
+        judged("tableshow", input, &expected);
         lines.push(expected);
     }
     let refused = |number| format!("refused: {number} at ");
     let rules = (1..=9).map(|rule| format!("refused: 6 at {rule}: INDEX"));
     let refusals: Vec<String> = (1..=6).map(refused).chain(rules).collect();
     all_seen(&lines, &refusals.iter().map(String::as_str).collect::<Vec<_>>());
+    inputs.len()
+}
+
+/// The line of `tableread` for each of these, and for tables that break a rule at a later item.
+pub fn lines() -> usize {
+    let mut from = Seeded::new(43);
+    let mut inputs = damaged_inputs();
+    for way in broken::WAYS {
+        let mut table = tables::many_sided(&mut from, 3);
+        let items: Vec<usize> = (0..way.items(&table)).skip(2).collect();
+        way.go_at(&items, &mut from, &mut table);
+        inputs.push(bytes(&tables::words(&table)));
+    }
+    let mut lines = Vec::new();
+    for input in &inputs {
+        let expected = read(input);
+        judged("tableread", input, &expected);
+        lines.push(expected);
+    }
+    let refusals = (1..=5).map(|number| format!("no {number} "));
+    let whole = [3, 7].map(|rule| format!("no 6 {rule} 0\n"));
+    let items = [1, 2, 4, 5, 6, 8, 9].map(|rule| format!("no 6 {rule} 2\n"));
+    let texts: Vec<String> =
+        refusals.chain(whole).chain(items).chain(["ok ".to_string()]).collect();
+    all_seen(&lines, &texts.iter().map(String::as_str).collect::<Vec<_>>());
     inputs.len()
 }

@@ -2,7 +2,8 @@
 
 use compare::plain::table::{Accept, TAG, Table};
 use compare::seeded::Seeded;
-use compare::tables::{self, broken, build, damage};
+use compare::tables::broken::{self, Way};
+use compare::tables::{self, build, damage};
 
 /// Seeded tables of every size, and with each some copies that have one damage or more.
 pub fn each_seeded(mut visit: impl FnMut(&[u32])) -> usize {
@@ -89,29 +90,108 @@ pub fn telling_tables() -> Vec<Vec<u32>> {
 }
 
 /// Each index rule broken alone, in every way, and every two of different rules together; and the
-/// number of the first.
-pub fn each_broken(mut visit: impl FnMut(&[u32], usize)) -> usize {
+/// number of the first, with the item at which it is broken.
+pub fn each_broken(mut visit: impl FnMut(&[u32], usize, usize)) -> usize {
     const TABLES: usize = 20;
     let mut from = Seeded::new(10);
     let mut cases = 0;
     for _ in 0..TABLES {
-        for (rule, first) in broken::WAYS {
+        for first in broken::WAYS {
             let states = 1 + from.below(3);
             let table = build::table(&mut from, states);
             let mut alone = table.clone();
-            first(&mut from, &mut alone);
-            visit(&tables::words(&alone), rule);
+            let item = first.go(&mut from, &mut alone);
+            visit(&tables::words(&alone), first.rule, item);
             cases += 1;
-            for (_, second) in broken::WAYS.into_iter().filter(|&(other, _)| other > rule) {
+            for second in higher(first.rule) {
                 let mut both = table.clone();
-                second(&mut from, &mut both);
-                first(&mut from, &mut both);
-                visit(&tables::words(&both), rule);
+                second.go(&mut from, &mut both);
+                let item = first.go(&mut from, &mut both);
+                visit(&tables::words(&both), first.rule, item);
                 cases += 1;
             }
         }
     }
     cases
+}
+
+/// The ways to break a rule above that one.
+fn higher(rule: usize) -> impl Iterator<Item = Way> {
+    broken::WAYS.into_iter().filter(move |way| way.rule > rule)
+}
+
+/// The first, a middle and the last of so many items: each alone, each two of them, and all three.
+fn telling_items(items: usize) -> Vec<Vec<usize>> {
+    let [first, middle, last] = [0, items / 2, items - 1];
+    let mut all = vec![vec![first]];
+    if items > 1 {
+        all.extend([vec![last], vec![first, last]]);
+    }
+    if items > 2 {
+        all.extend([vec![middle], vec![first, middle], vec![middle, last]]);
+        all.push(vec![first, middle, last]);
+    }
+    all
+}
+
+/// The same of tables that have three items or more for every rule, at the first, a middle and the last
+/// of them, and at more than one.
+pub fn each_broken_item(mut visit: impl FnMut(&[u32], usize, usize)) -> usize {
+    const TABLES: usize = 10;
+    let mut from = Seeded::new(12);
+    let mut cases = 0;
+    let mut visit = |table: &Table, rule, items: &[usize]| {
+        visit(&tables::words(table), rule, items[0]);
+        cases += 1;
+    };
+    for _ in 0..TABLES {
+        let table = tables::many_sided(&mut from, 3);
+        for first in broken::WAYS {
+            for items in telling_items(first.items(&table)) {
+                let mut alone = table.clone();
+                first.go_at(&items, &mut from, &mut alone);
+                visit(&alone, first.rule, &items);
+                for second in higher(first.rule) {
+                    let mut both = table.clone();
+                    let others = telling_items(second.items(&both));
+                    second.go_at(&others[from.below(others.len())], &mut from, &mut both);
+                    first.go_at(&items, &mut from, &mut both);
+                    visit(&both, first.rule, &items);
+                }
+            }
+        }
+    }
+    cases
+}
+
+/// Each rule broken in tables that have as many items as can be, at the first, a middle and the last.
+pub fn each_broken_crowd(mut visit: impl FnMut(&[u32], usize, usize)) -> usize {
+    let mut from = Seeded::new(13);
+    let mut met = [0; 10];
+    for mut table in tables::crowded() {
+        // What breaks a rule may take words.
+        table.modes.truncate(8170);
+        table.wide_rows.truncate(8170);
+        table.ascii_rows.truncate(126);
+        table.continuations.truncate(4080);
+        for way in broken::WAYS {
+            let items = way.items(&table);
+            if items < 100 {
+                continue;
+            }
+            for items in telling_items(items) {
+                let mut copy = table.clone();
+                way.go_at(&items, &mut from, &mut copy);
+                let words = tables::words(&copy);
+                if words.len() <= 8192 {
+                    visit(&words, way.rule, items[0]);
+                    met[way.rule] += 1;
+                }
+            }
+        }
+    }
+    assert!([1, 2, 4, 5, 6, 8, 9].iter().all(|&rule| met[rule] > 0), "{met:?}");
+    met.iter().sum()
 }
 
 /// Tables of which one section takes all words, whole and with a word too few or too many.

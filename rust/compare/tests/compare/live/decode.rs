@@ -3,8 +3,9 @@
 
 use crate::{lists, tables};
 use compare::original;
+use compare::plain;
 use compare::plain::table::{NONE, Table};
-use lexer_dfa::{MAX_WORDS, ROOM_NUMBERS, Refusal, decode_into};
+use lexer_dfa::{MAX_WORDS, ROOM_NUMBERS, decode_into};
 
 /// Where a table's words begin in its room.
 const WORDS_AT: usize = 9;
@@ -46,7 +47,17 @@ pub fn each_word_damaged() -> usize {
 
 pub fn broken_rules() -> usize {
     let mut judge = Judge::new();
-    tables::each_broken(|words, _| judge.judged(words))
+    tables::each_broken(|words, _, _| judge.judged(words))
+}
+
+pub fn broken_items() -> usize {
+    let mut judge = Judge::new();
+    tables::each_broken_item(|words, _, _| judge.judged(words))
+}
+
+pub fn broken_crowds() -> usize {
+    let mut judge = Judge::new();
+    tables::each_broken_crowd(|words, _, _| judge.judged(words))
 }
 
 pub fn crowded() -> usize {
@@ -71,7 +82,7 @@ pub fn past_the_limit() -> usize {
         let table = Table { modes: vec![NONE; modes], ..Table::default() };
         let words = compare::tables::words(&table);
         let ours = decode_into(&words, &mut room).map(|_| ());
-        let limit = Err(Refusal { number: 4, place: MAX_WORDS });
+        let limit = plain::refusal(4, MAX_WORDS);
         assert_eq!(ours, if words.len() > MAX_WORDS { limit } else { Ok(()) });
         assert!(original::decode(&words).is_some());
     }

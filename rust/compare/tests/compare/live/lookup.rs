@@ -1,6 +1,7 @@
 //! Lookups on the rooms of decoded tables, by the original.
 
 use compare::original;
+use compare::plain::refusal;
 use compare::plain::table::{NONE, Table};
 use compare::seeded::Seeded;
 use compare::tables;
@@ -61,7 +62,7 @@ fn modes(ours: &Ours, table: &Table, theirs: &CompiledLexerDfa) {
     let compiled = || (0..).zip(&table.modes).filter(|&(_, &start)| start != NONE);
     let descent = compiled().zip(compiled().skip(1)).find(|(before, mode)| mode.1 < before.1);
     let counts = match descent {
-        Some((_, (place, _))) => Err(Refusal { number: 10, place }),
+        Some((_, (place, _))) => refusal(10, place),
         None => Ok(theirs.mode_state_counts().into_iter().map(|count| count as u32).collect()),
     };
     assert_eq!(ours.mode_state_counts(), counts);
@@ -148,7 +149,7 @@ fn scans(from: &mut Seeded, ours: &Ours, theirs: &CompiledLexerDfa, state: u16) 
     1 + SCANS
 }
 
-const STATE: Result<(), Refusal> = Err(Refusal { number: 8, place: 0 });
+const STATE: Result<(), Refusal> = refusal(8, 0);
 
 /// The original panics here (docs/DIFFERENCES.md).
 fn no_state(ours: &Ours, state: u16) {
