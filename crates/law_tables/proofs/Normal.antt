@@ -11,8 +11,6 @@ use Rattle.refusal.specs.Fixed.{tag}
 use Rattle.refusal.specs.Lists.{pick, each}
 use Rattle.refusal.specs.Header.{HEADER-NUMBERS}
 use Rattle.word_reader.specs.declared.Place.{Place}
-use Rattle.word_layout.specs.declared.Layout.the-variants.{Found}
-use Rattle.word_layout.specs.Layout.{layoutOf}
 use Rattle.room_fill.specs.Room.{startsFrom, starts, copied, flag, renewed, acceptMade, configMade}
 use Rattle.room_fill.specs.Room.{continuationMade, made, shifted, placed, four, header, numbers}
 use Rattle.law_tables.specs.Table.{Table, Accept, Config, Continuation, Fields, ContinuationFields, All, counted, sectionWords, wordsOf, modeWords}
@@ -24,7 +22,7 @@ use Rattle.law_tables.proofs.Sizes.{counted-map, same-length, threes}
 use Rattle.law_tables.proofs.Runs.{run-codec}
 use Rattle.law_tables.proofs.Records.{wide-row, accept, escape, config, continuation, all-always}
 use Rattle.law_tables.proofs.Placed.{fromContinuations, fromEscapes, fromAccepts, fromAscii, runs-stand, wide-stand, accepts-stand, escapes-stand}
-use Rattle.law_tables.proofs.Placed.{continuations-stand, layout-is}
+use Rattle.law_tables.proofs.Placed.{continuations-stand}
 use Rattle.law_tables.specs.Normal.{normalAccept, normalConfig, normalContinuation, normal}
 
 -- Lengths
@@ -49,10 +47,6 @@ continuation-size x =
       counted-size configWords normalConfig config-size (x .configs),
     )
 
-pub normal-sections : (t : Table) → sectionsOf (normal t) ≡ sectionsOf t
-unfolding normal
-normal-sections t = rw (counted-size acceptWords normalAccept accept-size (t .accepts))
-
 -- what holds of all holds of those that they become
 pub all-to : {A : Type 0} (P Q : A → Type 0) (g : A → A) → ((x : A) → P x → Q (g x)) → (xs : List A) → All P xs → All Q (map g xs)
 unfolding All
@@ -69,10 +63,6 @@ normal-fields t h = record {
   wide = h .wide;
   continuations = all-to ContinuationFields ContinuationFields normalContinuation (λ x v. v) (t .continuations) (h .continuations);
 }
-
--- the normal form is read as the table was, section by section
-pub normal-layout : (t : Table) → Fields t → layoutOf (wordsOf (normal t)) ≡ layoutOf (wordsOf t)
-normal-layout t h = layout-is (normal t) (normal-fields t h) ∙ ap Found (normal-sections t) ∙ sym (layout-is t h)
 
 -- Twice is once
 

@@ -109,7 +109,7 @@ pub record EncodedBy (d : List ℕ) (n : ℕ) (says : Said) : Type 0 where
   pub room : (p : ℕ) → Exactly (says ≡ no ROOM p) ((p ≡ 0) × (w : List ℕ) × Leaves w d × (n < length w))
   -- it is left for some, and the output is long enough: so many are answered
   pub accepts : (k : ℕ) → Exactly (says ≡ ok (k ∷ [])) ((w : List ℕ) × Leaves w d × (length w ≤ n) × (k ≡ length w))
-  -- no other number is given
+  -- no other number is given, and no item
   pub no-other : (r : Refusal) → says ≡ noBy r → ((r .number ≡ NOT-TABLE) ⊎ (r .number ≡ ROOM)) × (r .item ≡ 0)
 
 -- coverage may answer x by its own contract

@@ -7,10 +7,6 @@ use Rattle.refusal.specs.declared.Refusal.{Refusal}
 abbrev pub refusalAt : ℕ → ℕ → Refusal
 refusalAt n p = record { number = n; item = 0; place = p }
 
--- "for INDEX the first mode, state, row or continuation that breaks that rule": that of rule k, broken first by item i
-abbrev pub brokenBy : ℕ → ℕ → Refusal
-brokenBy k i = record { number = 6; item = i; place = k }
-
 pub data Said : Type 0 where
   ok : List ℕ → Said
   noBy : Refusal → Said
@@ -44,6 +40,10 @@ LEFT = 5
 -- an index rule is broken
 abbrev pub INDEX : ℕ
 INDEX = 6
+
+-- "for INDEX the first mode, state, row or continuation that breaks that rule": that of rule k, broken first by item i
+abbrev pub brokenBy : ℕ → ℕ → Refusal
+brokenBy k i = record { number = INDEX; item = i; place = k }
 
 -- a lent buffer is shorter than stated, or a pool can't take a new row
 abbrev pub ROOM : ℕ
