@@ -1,12 +1,14 @@
 // Lent buffers made zero: of 32-bit numbers, and of the 64-bit words that masks have; and what a call answers that writes into one. In specs/ what
 // it is to write a list over a part of another, in proofs/ the law of every loop that does.
+#![tactic(auto)]
+
 ghost use Rattle.std.specs.Prelude.{◌≡◌, length};
 ghost use Rattle.buffer.specs.Over.{zeros};
 
 use refusal::Refusal;
 
 // How many numbers were written, or why none were.
-#[derive(Drop)]
+#[derive(Clone, Copy)]
 pub enum Written {
     Numbers(usize),
     Refused(Refusal),

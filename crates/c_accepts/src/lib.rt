@@ -1,6 +1,8 @@
 // The accepts of a decoded table, for C and Rust: the number of a state's accept, the record of it, and where its actions stand. The room
 // passes as pointer and length, answers come back as structs. A number of 0 says answered; else it is document 01's refusal, and every
 // other field is 0.
+#![tactic(auto)]
+
 ghost use Rattle.std.specs.Prelude.{◌≡◌};
 ghost use Rattle.look_accepts.specs.Accept as accepting;
 ghost use Rattle.c_value.specs.Value.{value_in_c};
@@ -22,7 +24,7 @@ pub extern "C" fn lexer_dfa_accept(room: &[u32], state: u16) -> CValue
 
 // An accept without its actions; `found` is 0 where there is none of that number.
 #[repr(C)]
-#[derive(Drop)]
+#[derive(Clone, Copy)]
 pub struct CAccept {
     pub number: u32,
     pub found: u32,

@@ -1,5 +1,7 @@
 // The classes of bytes and of ranges for C and Rust: a slice passes as pointer and length, an answer comes back as a struct.
 // A number of 0 says accepted; else it is document 01's refusal, with its place and item, and every other field is 0.
+#![tactic(auto)]
+
 ghost use Rattle.std.specs.Prelude.{◌≡◌};
 ghost use Rattle.run_class.specs.Byte.{byte_class, byte_number};
 ghost use Rattle.run_class.specs.Class.{class_number, class_said};
@@ -9,7 +11,7 @@ use run_class::{AsciiRangeClass, ByteClass, RangeClass};
 
 // The class of ranges: 0 whitespace, 1 number, 2 identifier, 3 other.
 #[repr(C)]
-#[derive(Drop)]
+#[derive(Clone, Copy)]
 pub struct CClass {
     pub number: u32,
     pub item: u32,

@@ -1,6 +1,8 @@
 // The continuations of a decoded table, for C and Rust: the number of a state's continuation, the record of it, and where its contexts and
 // configs stand. The room passes as pointer and length, answers come back as structs. A number of 0 says answered; else it is document 01's
 // refusal, and every other field is 0.
+#![tactic(auto)]
+
 ghost use Rattle.std.specs.Prelude.{◌≡◌};
 ghost use Rattle.look_continuations.specs.Continuation as continuing;
 ghost use Rattle.c_value.specs.Value.{value_in_c};
@@ -30,7 +32,7 @@ pub extern "C" fn lexer_dfa_eof_continuation(room: &[u32], state: u16) -> CValue
 
 // How many contexts and configs a continuation has; `found` is 0 where there is none of that number.
 #[repr(C)]
-#[derive(Drop)]
+#[derive(Clone, Copy)]
 pub struct CContinuation {
     pub number: u32,
     pub found: u32,

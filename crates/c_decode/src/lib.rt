@@ -1,5 +1,7 @@
 // Decoding for C and Rust: slices pass as pointer and length, the answer comes back as a struct.
 // A number of 0 says accepted; else it is document 01's refusal, with its place and item, and every other field is 0.
+#![tactic(auto)]
+
 ghost use Rattle.std.specs.Prelude.{◌≡◌, length};
 ghost use Rattle.room_decode.specs.Decode.{decode_of, room_of};
 ghost use Rattle.c_decode.specs.Answers.{decoded_in_c};
@@ -8,7 +10,7 @@ use room_decode::Decoded;
 
 // A table by the number of its modes, states and words.
 #[repr(C)]
-#[derive(Drop)]
+#[derive(Clone, Copy)]
 pub struct CDecoded {
     pub number: u32,
     pub item: u32,

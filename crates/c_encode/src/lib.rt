@@ -1,4 +1,6 @@
 // Encoding for C and Rust: slices pass as pointer and length, the answer comes back as a struct.
+#![tactic(auto)]
+
 ghost use Rattle.std.specs.Prelude.{◌≡◌, length};
 ghost use Rattle.buffer.specs.Written.{said};
 ghost use Rattle.room_encode.specs.Encode.{encode_of, out_of};

@@ -1,5 +1,7 @@
 // The masks of a list of transitions, for C and Rust: slices pass as pointer and length, answers come back as structs.
 // A number of 0 says accepted; else it is document 01's refusal, with its place and item, and every other field is 0.
+#![tactic(auto)]
+
 ghost use Rattle.std.specs.Prelude.{◌≡◌, length};
 ghost use Rattle.list_masks.specs.Answer as masking;
 ghost use Rattle.c_masks.specs.Answers.{masks_in_c, MatrixInC, DistinctInC};
@@ -8,7 +10,7 @@ use list_masks::Masks;
 
 // How many masks there are, and of how many words each.
 #[repr(C)]
-#[derive(Drop)]
+#[derive(Clone, Copy)]
 pub struct CMasks {
     pub number: u32,
     pub item: u32,

@@ -1,4 +1,6 @@
 // The flags of the modes of a decoded table and their counts of states, for C and Rust: slices pass as pointer and length, answers come back as structs.
+#![tactic(auto)]
+
 ghost use Rattle.std.specs.Prelude.{◌≡◌, length};
 ghost use Rattle.look_mode_lists.specs.Written as writing;
 ghost use Rattle.look_mode_lists.specs.Flags.{mode_flags};

@@ -1,5 +1,7 @@
 // The modes of a decoded table and its count of states, for C and Rust: the room passes as pointer and length, answers come back as structs.
 // A number of 0 says answered; else it is document 01's refusal, and the value is 0.
+#![tactic(auto)]
+
 ghost use Rattle.std.specs.Prelude.{◌≡◌};
 ghost use Rattle.look_modes.specs.Start as starting;
 ghost use Rattle.look_modes.specs.Modes as moding;

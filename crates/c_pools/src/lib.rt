@@ -1,5 +1,7 @@
 // Pools of rows for C and Rust: slices pass as pointer and length, answers come back as structs.
 // A number of 0 says interned; else it is document 01's refusal, and the row's number is 0.
+#![tactic(auto)]
+
 ghost use Rattle.std.specs.Prelude.{◌≡◌};
 ghost use Rattle.pool_rows.specs.Pools as pooling;
 ghost use Rattle.pool_rows.specs.Pools.{ascii, wide};
@@ -9,7 +11,7 @@ use pool_rows::Interned;
 
 // The number of a row in its pool. A refusal of a pool has place 0, which is left out.
 #[repr(C)]
-#[derive(Drop)]
+#[derive(Clone, Copy)]
 pub struct CInterned {
     pub row: usize,
     pub number: u32,

@@ -1,5 +1,7 @@
 // The building of rows for C and Rust: slices pass as pointer and length, the answer comes back as a struct.
 // A number of 0 says built; else it is document 01's refusal, with its place and item, and every other field is 0.
+#![tactic(auto)]
+
 ghost use Rattle.std.specs.Prelude.{◌≡◌};
 ghost use Rattle.row_build.specs.Answer as building;
 ghost use Rattle.row_build.specs.Answer.{lent, parse_rows};
@@ -9,7 +11,7 @@ use row_build::Rows;
 
 // How many numbers the wide row and the escape row have.
 #[repr(C)]
-#[derive(Drop)]
+#[derive(Clone, Copy)]
 pub struct CRows {
     pub number: u32,
     pub item: u32,

@@ -1,5 +1,7 @@
 // Runs for C and Rust: slices pass as pointer and length, answers come back as structs.
 // A number of 0 says accepted; else it is document 01's refusal, with its place and item, and every other field is 0.
+#![tactic(auto)]
+
 ghost use Rattle.std.specs.Prelude.{◌≡◌};
 ghost use Rattle.run_shape.specs.Classify.{classified};
 ghost use Rattle.run_shape.specs.Words.{read_at};
@@ -10,7 +12,7 @@ use run_shape::{Answered, Run, RunAnswer};
 
 // A run's words: one, or three.
 #[repr(C)]
-#[derive(Drop)]
+#[derive(Clone, Copy)]
 pub struct CRun {
     pub number: u32,
     pub item: u32,

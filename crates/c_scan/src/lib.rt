@@ -1,5 +1,7 @@
 // The scan by a run for C and Rust: slices pass as pointer and length, the answer comes back as a struct.
 // A number of 0 says accepted; else it is document 01's refusal, with its place and item, and every other field is 0.
+#![tactic(auto)]
+
 ghost use Rattle.std.specs.Prelude.{◌≡◌};
 ghost use Rattle.run_shape.specs.Scan.{said};
 ghost use Rattle.c_scan.specs.Answers.{scan_call, scan_in_c};
@@ -9,7 +11,7 @@ use run_shape::{Answered, Run, Scanned};
 // How far a run went, and whether an exit stopped it; `ran` is 0 where there is no run. The flags are whole words, 1 or 0, so that
 // a caller that loads a word finds one stored.
 #[repr(C)]
-#[derive(Drop)]
+#[derive(Clone, Copy)]
 pub struct CScan {
     pub number: u32,
     pub item: u32,

@@ -1,5 +1,7 @@
 // The segments of a list of transitions, for C and Rust: slices pass as pointer and length, the answer comes back as a struct.
 // A number of 0 says accepted; else it is document 01's refusal, with its place and item, and the count is 0.
+#![tactic(auto)]
+
 ghost use Rattle.std.specs.Prelude.{◌≡◌, length};
 ghost use Rattle.list_segments.specs.Answer as cutting;
 ghost use Rattle.c_segments.specs.Answers.{segments_in_c};
@@ -7,7 +9,7 @@ ghost use Rattle.c_segments.specs.Answers.{segments_in_c};
 use list_segments::Segments;
 
 #[repr(C)]
-#[derive(Drop)]
+#[derive(Clone, Copy)]
 pub struct CSegments {
     pub number: u32,
     pub item: u32,

@@ -1,5 +1,7 @@
 // The scan by a state's run, for C and Rust: slices pass as pointer and length, the answer comes back as a struct.
 // A number of 0 says answered; else it is document 01's refusal, and every other field is 0.
+#![tactic(auto)]
+
 ghost use Rattle.std.specs.Prelude.{◌≡◌, ◌+◌};
 ghost use Rattle.run_shape.specs.Scan.{bit, scanned_by};
 ghost use Rattle.look_runs.specs.StateRun.{ascii_run};
@@ -10,7 +12,7 @@ use look_scan::StateScan;
 
 // How far a state's run went, in two registers: `stop` is 0 where there is no run, 1 where the input ended and 2 where an exit was found.
 #[repr(C)]
-#[derive(Drop)]
+#[derive(Clone, Copy)]
 pub struct CStateScan {
     pub bytes: usize,
     pub number: u32,

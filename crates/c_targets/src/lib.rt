@@ -1,5 +1,7 @@
 // A state's targets in a decoded table, for C and Rust: the room passes as pointer and length, an answer comes back as a struct.
 // A number of 0 says answered; else it is document 01's refusal, and the value is 0.
+#![tactic(auto)]
+
 ghost use Rattle.std.specs.Prelude.{◌≡◌};
 ghost use Rattle.look_targets.specs.Targets as targeting;
 ghost use Rattle.c_value.specs.Value.{value_in_c};

@@ -1,5 +1,7 @@
 // Lists of transitions, for C and Rust: slices pass as pointer and length, answers come back as structs.
 // A number of 0 says accepted; else it is document 01's refusal, with its place and item, and every other field is 0.
+#![tactic(auto)]
+
 ghost use Rattle.std.specs.Prelude.{◌≡◌, length};
 ghost use Rattle.list_transitions.specs.Read as reading;
 ghost use Rattle.list_transitions.specs.Ends as ending;
@@ -9,7 +11,7 @@ use list_transitions::Transitions;
 
 // How many transitions a list has, and how many intervals they have together.
 #[repr(C)]
-#[derive(Drop)]
+#[derive(Clone, Copy)]
 pub struct CTransitions {
     pub number: u32,
     pub item: u32,

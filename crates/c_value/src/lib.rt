@@ -1,4 +1,6 @@
 // What a lookup answers in C, and a call that writes into a lent buffer: the types that faces share.
+#![tactic(auto)]
+
 ghost use Rattle.std.specs.Prelude.{◌≡◌};
 ghost use Rattle.buffer.specs.Written as writing;
 ghost use Rattle.room_find.specs.Answer.{said};
@@ -11,7 +13,7 @@ use room_find::Answer;
 
 // What a lookup answers, in one register with the value in its low half. A lookup's refusal has place 0, which is left out.
 #[repr(C)]
-#[derive(Drop)]
+#[derive(Clone, Copy)]
 pub struct CValue {
     pub value: u32,
     pub number: u32,
@@ -36,7 +38,7 @@ pub fn value_in_c(answer: Answer) -> CValue
 
 // How many numbers were written. A number of 0 says accepted; else it is document 01's refusal, with its place and item, and the length is 0.
 #[repr(C)]
-#[derive(Drop)]
+#[derive(Clone, Copy)]
 pub struct CWritten {
     pub number: u32,
     pub item: u32,

@@ -1,5 +1,7 @@
 // The face of Vohitsamba: the calls that a user makes and the types that they answer with, and nothing else.
 // What the calls promise together, the demands, the ply sheet's examples and uniqueness, stands in specs/ and proofs/.
+#![tactic(auto)]
+
 pub use buffer::Written;
 pub use list_distinct::distinct_masks;
 pub use list_masks::{Masks, segment_mask_matrix};

@@ -1,4 +1,6 @@
 // The distinct ones among the masks of a list's segments, and where each segment's mask stands among them; the same without the places.
+#![tactic(auto)]
+
 ghost use Rattle.std.specs.Prelude.{◌≡◌, [], ◌∷◌, ◌||◌, ◌+◌, ◌*◌, ◌≤◌, ◌<◌, eqb, ltb, length, take, drop};
 ghost use Rattle.refusal.specs.Lists.{pick, same_list};
 ghost use Rattle.buffer.specs.Over.{Put};
@@ -14,7 +16,7 @@ use refusal::{NONE, ROOM, Refusal};
 const PLACES: usize = 2048;
 
 // How many segments, how many distinct masks, and of how many words each, or why there are none.
-#[derive(Drop)]
+#[derive(Clone, Copy)]
 pub enum Places {
     Found {
         segments: usize,

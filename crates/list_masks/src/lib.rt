@@ -1,5 +1,7 @@
 // The masks of the segments of a list of transitions: which transitions hold a segment, 64 to a word, for each segment. A list may be of any
 // length and hold any bytes.
+#![tactic(auto)]
+
 ghost use Rattle.std.specs.Prelude.{◌≡◌, true, ◌+◌, ◌*◌, ◌/◌, ◌≤◌, ◌<◌, min, length};
 ghost use Rattle.buffer.specs.Over.{Put, zeros};
 ghost use Rattle.list_transitions.specs.Transition.{origin, atom, holds, hold_at, in_order};
@@ -23,7 +25,7 @@ const PAST: u64 = 8589934593;
 pub const WORDS: usize = 8192;
 
 // The keys from `floor` to `high`, of which a record's pairs hold just those that are not below `low`. `pairs` of them end before.
-#[derive(Drop)]
+#[derive(Clone, Copy)]
 struct Span {
     pairs: usize,
     floor: u64,
@@ -32,7 +34,7 @@ struct Span {
 }
 
 // How many masks there are, and of how many words each, or why there are none.
-#[derive(Drop)]
+#[derive(Clone, Copy)]
 pub enum Masks {
     Count { masks: usize, words: usize },
     Refused(Refusal),

@@ -1,5 +1,7 @@
 // Lists of transitions: bytes are read record by record, or refused, and the intervals of each are counted, or written into a buffer. A list may be of
 // any length and hold any bytes.
+#![tactic(auto)]
+
 mod intervals;
 
 ghost use Rattle.std.specs.Prelude.{◌≡◌, [], true, suc, ◌+◌, ◌*◌, ◌≤◌, ◌<◌, max, length};
@@ -21,14 +23,14 @@ pub(crate) const BEYOND: u64 = 2148597760;
 const ENDS: usize = 2048;
 
 // How many transitions and intervals a list has, or why it is none.
-#[derive(Drop)]
+#[derive(Clone, Copy)]
 pub enum Transitions {
     Read { count: usize, intervals: usize },
     Refused(Refusal),
 }
 
 // Where the next record starts and how many intervals this one has, or its refusal's number.
-#[derive(Drop)]
+#[derive(Clone, Copy)]
 enum Step {
     Good { next: usize, intervals: usize },
     Bad(u32),

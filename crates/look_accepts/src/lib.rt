@@ -1,4 +1,6 @@
 // What a state accepts, by number; the record of an accept, and where in the room its actions stand. The room may be of any length and hold any numbers.
+#![tactic(auto)]
+
 ghost use Rattle.std.specs.Prelude.{◌≡◌, ◌+◌, ◌*◌, ◌<◌, ◌≤◌, length};
 ghost use Rattle.room_find.specs.Answer.{said};
 ghost use Rattle.look_accepts.specs.Accept.{accept_of};
@@ -8,7 +10,7 @@ use refusal::{ACCEPTS_START, ESCAPES_START};
 use room_find::{Answer, Found, Span};
 
 // The rule and the flag of a record and how many actions it has; or no such record, or no table.
-#[derive(Drop)]
+#[derive(Clone, Copy)]
 pub enum AcceptRecord {
     Record {
         rule: u32,

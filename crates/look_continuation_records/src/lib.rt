@@ -1,5 +1,7 @@
 // The record of a continuation: where it stands whole, how many contexts and configs it has, and where in the room they stand.
 // The room may be of any length and hold any numbers.
+#![tactic(auto)]
+
 ghost use Rattle.std.specs.Prelude.{◌≡◌, ◌+◌, ◌^◌, ◌<◌, ◌≤◌, ◌-◌, length};
 ghost use Rattle.refusal.specs.Header.{HEADER-NUMBERS};
 ghost use Rattle.look_continuation_records.specs.Configs.{past_contexts, past_actions, past_config, past_configs, whole_behind, whole_from};
@@ -9,7 +11,7 @@ use refusal::{CONTINUATIONS_START, HEADER_NUMBERS, WORD_COUNT};
 use room_find::{Found, Span};
 
 // Where the context count and the config count of a record stand, and where it ends.
-#[derive(Drop)]
+#[derive(Clone, Copy)]
 pub enum Whole {
     Spans(usize, usize, usize),
     Absent,
@@ -17,7 +19,7 @@ pub enum Whole {
 }
 
 // How many contexts and configs a record has; or no such record, or no table.
-#[derive(Drop)]
+#[derive(Clone, Copy)]
 pub enum ContinuationRecord {
     Record { contexts: u32, configs: u32 },
     NoRecord,

@@ -1,4 +1,6 @@
 // The continuation of an escaped edge: on a character, and at the end of the input. The room may be of any length and hold any numbers.
+#![tactic(auto)]
+
 ghost use Rattle.std.specs.Prelude.{◌≡◌};
 ghost use Rattle.room_find.specs.Answer.{said};
 ghost use Rattle.look_continuations.specs.Continuation.{search_row, char_in_row, char_continuation, eof_in_row, eof_continuation};

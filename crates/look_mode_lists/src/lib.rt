@@ -1,5 +1,7 @@
 // Lists over all modes, written into a lent buffer: whether each is compiled, and how many states each compiled mode has.
 // The room may be of any length and hold any numbers.
+#![tactic(auto)]
+
 ghost use Rattle.std.specs.Prelude.{◌≡◌, ◌+◌, ◌≤◌, ◌-◌, map, length};
 ghost use Rattle.buffer.specs.Over.{Put, zeros};
 ghost use Rattle.look_modes.specs.Modes.{numbers};

@@ -1,4 +1,6 @@
 // Where a mode starts, how many states there are, and whether any mode is compiled. The room may be of any length and hold any numbers.
+#![tactic(auto)]
+
 ghost use Rattle.std.specs.Prelude.{◌≡◌, ◌+◌, ◌≤◌, length};
 ghost use Rattle.room_find.specs.Answer as answer;
 ghost use Rattle.look_modes.specs.Start.{said, started, mode_in, mode_at, mode_start, compiled};
@@ -9,7 +11,7 @@ use refusal::{CONTINUATIONS_START, MODES_START, NONE, RUNS_START, STATES_START};
 use room_find::{Answer, Found};
 
 // A start state, or none; or no table.
-#[derive(Drop)]
+#[derive(Clone, Copy)]
 pub enum Start {
     At(u16),
     Nowhere,
@@ -17,14 +19,14 @@ pub enum Start {
 }
 
 // Whether some mode is compiled.
-#[derive(Drop)]
+#[derive(Clone, Copy)]
 pub enum Compiled {
     Modes(bool),
     NotTable,
 }
 
 // Where the starts of the modes stand, and how many there are.
-#[derive(Drop)]
+#[derive(Clone, Copy)]
 pub enum Modes {
     Starts(usize, u32),
     Outside,

@@ -1,4 +1,6 @@
 // The lists that go with a record, as parts of the room itself and no copies. The room may be of any length and hold any numbers.
+#![tactic(auto)]
+
 ghost use Rattle.std.specs.Prelude.{◌+◌, ◌≤◌, length};
 ghost use Rattle.room_find.specs.Part.{PartOf};
 ghost use Rattle.look_accepts.specs.Record.{actions_from, actions_length};

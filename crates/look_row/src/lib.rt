@@ -1,5 +1,7 @@
 // The search of a row of ranges: to the first range whose high reaches the symbol. In a room, which may be of any length and hold any
 // numbers; and over a lent slice of range records (`wide_target`), walked by hand, which answers what the search over numbers does.
+#![tactic(auto)]
+
 ghost use Rattle.std.specs.Prelude.{◌≡◌, ◌≤◌, ◌<◌, ◌+◌, ◌*◌, length};
 ghost use Rattle.look_row.specs.Search.{found, counted, searched};
 ghost use Rattle.look_row.specs.Ranges.{target_in};
@@ -7,7 +9,7 @@ ghost use Rattle.look_row.specs.Ranges.{target_in};
 use refusal::DEAD_STATE;
 
 // The third number of the range that was chosen, or none.
-#[derive(Drop)]
+#[derive(Clone, Copy)]
 pub enum Hit {
     Third(u32),
     Gap,
@@ -15,7 +17,7 @@ pub enum Hit {
 }
 
 // What is left of a search.
-#[derive(Drop)]
+#[derive(Clone, Copy)]
 struct Rest {
     at: usize,
     left: u32,
@@ -103,7 +105,7 @@ pub fn search_row(room: &[u32], at: usize, end: u32, x: u32) -> Hit
 }
 
 // A range of symbols, and where it leads.
-#[derive(Drop)]
+#[derive(Clone, Copy)]
 pub struct WideRange {
     pub low: u32,
     pub high: u32,

@@ -1,4 +1,6 @@
 // The run of a state: where its words stand, and the run that they are. The room may be of any length and hold any numbers.
+#![tactic(auto)]
+
 ghost use Rattle.std.specs.Prelude.{◌≡◌, ◌≤◌, length};
 ghost use Rattle.look_runs.specs.RunPlaces.{run_place};
 ghost use Rattle.run_shape.specs.Shape.{Gives, refused};

@@ -1,4 +1,6 @@
 // The scan by a state's run, as the front part of the input itself, and by its length. The room may be of any length and hold any numbers.
+#![tactic(auto)]
+
 ghost use Rattle.std.specs.Prelude.{◌≡◌, take, length, ◌≤◌};
 ghost use Rattle.look_runs.specs.StateRun.{ascii_run, skipped_by, judged, run_in, run_of};
 ghost use Rattle.look_scan.specs.StateScan.{said};
@@ -14,7 +16,7 @@ use run_ranges::{AsciiRanges, PackedRanges};
 use run_shape::{Answered, AsciiRun, Run, Scanned};
 
 // What a scan by a state's run answers: no run; how far it went, and whether an exit stopped it; or why there is no answer.
-#[derive(Drop)]
+#[derive(Clone, Copy)]
 pub enum StateScan {
     NoRun,
     Skipped { bytes: usize, found_exit: bool },

@@ -4,6 +4,8 @@
 // holds the four numbers of state 0. The symbol is past 127, so the second of them, 0, is a wide row's number; its place stands in the
 // list behind the words. The row has no range that reaches the symbol, so the answer is 65535, dead. A number that led outside would have
 // been NOT-TABLE, and state 1 STATE.
+#![tactic(auto)]
+
 ghost use Rattle.std.specs.Prelude.{◌≡◌};
 ghost use Rattle.room_find.specs.Answer.{said};
 ghost use Rattle.look_targets.specs.Targets.{half, ascii_row_at, row_target, ascii_target, wide_row_at, target, eof_target};

@@ -3,6 +3,8 @@
 // loops on them, its row is classified, and each line is scanned by the run that this gives.
 //
 //     rt check plyscan && ./run plyscan < crates/plyscan/stdin
+#![tactic(auto)]
+
 ghost use Rattle.std.specs.Prelude.{◌≤◌, length};
 
 use lexer_dfa::{Answered, AsciiRunScan, Refusal, Run, RunWords, Scanned};

@@ -1,4 +1,6 @@
 // Pools of ascii rows: 128 targets each. The pool may be of any length and hold any numbers.
+#![tactic(auto)]
+
 ghost use Rattle.std.specs.Prelude.{◌≡◌, ◌+◌, ◌*◌, ◌≤◌, length, take, drop};
 ghost use Rattle.refusal.specs.Lists.{same_list, first_equal};
 ghost use Rattle.buffer.specs.Over.{Put};

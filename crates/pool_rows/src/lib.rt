@@ -1,5 +1,7 @@
 // Pools: rows that stand one behind another in a lent buffer, each of them once. A row that is interned is found there, or appended. The
 // crates above have a call for each kind of row; here stands what they answer.
+#![tactic(auto)]
+
 ghost use Rattle.std.specs.Prelude.{◌≡◌};
 ghost use Rattle.refusal.specs.Said.{no};
 ghost use Rattle.pool_rows.specs.Pools.{said};
@@ -7,7 +9,7 @@ ghost use Rattle.pool_rows.specs.Pools.{said};
 use refusal::Refusal;
 
 // The number of a row in its pool, or why there is none.
-#[derive(Drop)]
+#[derive(Clone, Copy)]
 pub enum Interned {
     At(usize),
     Refused(Refusal),

@@ -1,4 +1,6 @@
 // Pools of wide rows: a row's count, and its ranges of three numbers behind it. The pool may be of any length and hold any numbers.
+#![tactic(auto)]
+
 ghost use Rattle.std.specs.Prelude.{◌≡◌, ◌+◌, ◌*◌, ◌/◌, ◌^◌, ◌<◌, ◌≤◌, min, ◌∷◌, length, take, drop};
 ghost use Rattle.refusal.specs.Lists.{same_list, first_equal};
 ghost use Rattle.buffer.specs.Over.{Put};

@@ -1,4 +1,6 @@
 // What the programs share: a table read from the bytes of an input; and bytes, texts and numbers written onto a page.
+#![tactic(auto)]
+
 ghost use Rattle.std.specs.Prelude.{◌≡◌, [], ◌∷◌, length};
 ghost use Rattle.program_io.specs.Bytes.{refused, read_of, room_read};
 ghost use Rattle.program_io.specs.Decimal.{number};

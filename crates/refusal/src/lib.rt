@@ -1,9 +1,10 @@
 // What every call of Vohitsamba can refuse with, and the numbers that document 01 fixes.
+#![tactic(auto)]
 
 // A refusal: document 01's number, and the place that goes with it. Of INDEX the item is the first mode, state, row or continuation that breaks
 // the rule, counted from 0; it is 0 where the rule asks nothing of single ones (rules 3 and 7), and of every other refusal.
 #[repr(C)]
-#[derive(Drop)]
+#[derive(Clone, Copy)]
 pub struct Refusal {
     pub number: u32,
     pub item: u32,

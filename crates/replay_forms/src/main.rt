@@ -7,6 +7,8 @@
 //     four ranges: low u32, high u32, target u16; symbol u32; the original's target u16
 //
 // It prints how many records it replayed and how many of our answers differ, and how many bytes stand behind the last whole record, which must be none.
+#![tactic(auto)]
+
 ghost use Rattle.std.specs.Prelude.{◌≡◌};
 ghost use Rattle.look_row.specs.Ranges.{target_in};
 

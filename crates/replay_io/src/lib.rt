@@ -1,5 +1,7 @@
 // What the programs that replay recorded answers share: reading the bytes of a sample, a check over the numbers of a buffer, and the counts of what
 // agreed, which are printed.
+#![tactic(auto)]
+
 pub mod check;
 pub mod read;
 pub mod tally;

@@ -6,7 +6,7 @@ ghost use Rattle.replay_io.specs.Tally.{place_of, counted, taken, one_more};
 use crate::read;
 
 // What came of a record: how many bytes it has behind its first, and whether our answer is the recorded one.
-#[derive(Drop)]
+#[derive(Clone, Copy)]
 pub struct Replayed {
     pub more: usize,
     pub same: bool,

@@ -13,6 +13,8 @@
 // A check is over the buffer that the call is named for, its numbers behind the answer too; that of build_rows over the ascii row, the wide row and
 // the escape row. It prints how many of the bytes it came through, then for each kind how many of our answers are equal and how many differ. A record
 // that cannot be read ends the replay, which the first line shows, so that a damaged sample cannot pass.
+#![tactic(auto)]
+
 mod interned;
 mod lists;
 

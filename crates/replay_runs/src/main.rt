@@ -12,6 +12,8 @@
 //
 // It prints how many of the bytes it came through, then for each kind how many of our answers are equal and how many differ. A record
 // that cannot be read ends the replay, which the first line shows, so that a damaged sample cannot pass.
+#![tactic(auto)]
+
 mod decode;
 mod runs;
 

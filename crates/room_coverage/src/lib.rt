@@ -1,5 +1,7 @@
 // How many code points a state goes on with. The ascii row's 128 targets are asked one by one; behind them the ranges of the wide row are
 // counted, each as long as it reaches, so that no call walks over a million points.
+#![tactic(auto)]
+
 ghost use Rattle.std.specs.Prelude.{◌≡◌, true, [], ◌∷◌, ◌+◌, ◌-◌, ◌*◌, ◌≤◌, ◌<◌, length};
 ghost use Rattle.refusal.specs.Said.{ok};
 ghost use Rattle.refusal.specs.Lists.{pick};

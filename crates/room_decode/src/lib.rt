@@ -6,6 +6,8 @@
 // and so must be the classification of row 0 at state 0, whose 128 targets are all 0: it is. The answer is 1 mode, 1 state, 82 words. Had
 // a rule been broken, the room would have been cleared again, and the refusal would have named the first mode, state, row or continuation that
 // breaks it.
+#![tactic(auto)]
+
 ghost use Rattle.std.specs.Prelude.{◌≡◌, length};
 ghost use Rattle.room_decode.specs.Decode.{decode_of, room_of};
 
@@ -14,7 +16,7 @@ use rule_words::word_at;
 use word_layout::Layout;
 
 // A table, by the number of its modes, states and words, or why the words are none.
-#[derive(Drop)]
+#[derive(Clone, Copy)]
 pub enum Decoded {
     Table {
         modes: u32,

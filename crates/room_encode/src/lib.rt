@@ -1,4 +1,6 @@
 // Table to words: encoding hands the words of a room on, section by section, once it has judged the room.
+#![tactic(auto)]
+
 ghost use Rattle.std.specs.Prelude.{◌≡◌, ◌≤◌, ◌-◌, length, take, drop};
 ghost use Rattle.refusal.specs.Header.{word_count};
 ghost use Rattle.word_layout.specs.declared.Layout.TheVariants.{Found};

@@ -1,5 +1,7 @@
 // The room of a table: one flat list of numbers, lent by the caller, which the lookups read. A header, the words with flags made 0 or
 // 1, and where each record of variable length starts (docs/ARCHITECTURE.md, "The room").
+#![tactic(auto)]
+
 ghost use Rattle.std.specs.Prelude.{◌≡◌, length};
 ghost use Rattle.word_layout.specs.Limits.{laid_out};
 ghost use Rattle.room_fill.specs.Room.{room_for};
@@ -11,7 +13,7 @@ mod renew;
 mod table;
 
 // The records that have flags.
-#[derive(Drop)]
+#[derive(Clone, Copy)]
 enum Flagged {
     Accept,
     Config,

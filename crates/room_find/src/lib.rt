@@ -1,5 +1,7 @@
 // Finding a record in a room: one of a fixed size, and one of a length of its own by its place in a list.
 // The room may be of any length and hold any numbers: each call says whether what it follows is there.
+#![tactic(auto)]
+
 ghost use Rattle.std.specs.Prelude.{◌≡◌, ◌+◌, ◌-◌, ◌<◌, ◌≤◌, length};
 ghost use Rattle.room_find.specs.Room.{placed, record_in, state_at, within, numbered, listed_in, end_of, section_of, past_lists, listed_at};
 ghost use Rattle.refusal.specs.Header.{HEADER-NUMBERS, ASCII-START, CONTINUATIONS-START};
@@ -9,7 +11,7 @@ use refusal::{
 };
 
 // Where a record stands.
-#[derive(Drop)]
+#[derive(Clone, Copy)]
 pub enum Found {
     At(usize),
     Absent,
@@ -17,7 +19,7 @@ pub enum Found {
 }
 
 // What is told of a state: a number; or no such state, or no table.
-#[derive(Drop)]
+#[derive(Clone, Copy)]
 pub enum Answer {
     Number(u32),
     NoState,
@@ -26,7 +28,7 @@ pub enum Answer {
 
 // A part of the room by its place, and how many numbers it has.
 #[repr(C)]
-#[derive(Drop)]
+#[derive(Clone, Copy)]
 pub struct Span {
     pub from: usize,
     pub length: usize,

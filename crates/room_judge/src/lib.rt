@@ -1,5 +1,7 @@
 // Whether a room holds a table: whether it is what decoding leaves for some accepted words. The words part of the room is judged as
 // words are, and every other number compared with what decoding would have written.
+#![tactic(auto)]
+
 ghost use Rattle.std.specs.Prelude.{◌≡◌, ◌≤◌, length, get_or};
 ghost use Rattle.word_layout.specs.declared.Layout.TheVariants.{Found};
 ghost use Rattle.word_layout.specs.Layout.{layout_of, unfound};

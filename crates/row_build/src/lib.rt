@@ -5,6 +5,8 @@
 // two distinct masks, and two targets were given. `split_rows` parts them at 128: the ascii row has 3 from 100 to 127, and what lies from
 // 128 on touches and has one target, so it is one range, 128..300 to 3. `merge_escape_ranges` finds no continuation, and the escape row is
 // empty. The answer is 3 numbers for the wide row, and 0 for the escape row.
+#![tactic(auto)]
+
 ghost use Rattle.std.specs.Prelude.{◌≡◌, true, false, [], ◌∷◌, suc, min, ◌+◌, ◌≤◌, length};
 ghost use Rattle.refusal.specs.Lists.{pick};
 ghost use Rattle.buffer.specs.Over.{Put, zeros};
@@ -223,7 +225,7 @@ fn merge_escape_ranges(
 }
 
 // How many numbers the wide row and the escape row take, or why there are none.
-#[derive(Drop)]
+#[derive(Clone, Copy)]
 pub enum Rows {
     Built { wide: usize, escape: usize },
     Refused(Refusal),

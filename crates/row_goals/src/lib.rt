@@ -1,5 +1,7 @@
 // What row building asks of one segment, of one range or of one call: the goal that a place was given; whether a range is left out of its
 // row, from where on it is seen there and whether the next one touches it; and what stands in the way of the rows.
+#![tactic(auto)]
+
 ghost use Rattle.std.specs.Prelude.{◌≡◌, ◌&&◌, ◌||◌, suc, max, eqb, ltb, get_or};
 ghost use Rattle.row_goals.specs.Edges.{no_goal, first_of};
 ghost use Rattle.refusal.specs.Fixed.{NONE};

@@ -1,5 +1,7 @@
 // What index rule 9 asks of a continuation: its contexts refer only below themselves, and the context of a config is at most their count (0 is none).
 // And whether the flags of its configs are plain. A word past the end is 0, so every function takes any place.
+#![tactic(auto)]
+
 ghost use Rattle.std.specs.Prelude.{◌≡◌, ◌+◌, ◌*◌, ◌<◌, ◌≤◌, length};
 ghost use Rattle.word_reader.specs.Records.{config_at};
 ghost use Rattle.rule_words.specs.Rules.{passing, every_in, refers_below, below, continuation_good};
@@ -47,7 +49,7 @@ fn contexts_refer_below(words: &[u32], count: u32, at: usize) -> bool
 }
 
 // What is asked of each config of a continuation: is its context at most so many; are its flags 0 or 1?
-#[derive(Drop)]
+#[derive(Clone, Copy)]
 enum Asked {
     Context(u32),
     Flags,

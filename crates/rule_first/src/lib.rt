@@ -1,4 +1,6 @@
 // The first of the nine index rules that is broken, in document 01's order, and the first item that breaks it.
+#![tactic(auto)]
+
 ghost use Rattle.std.specs.Prelude.{◌≡◌, eqb, get_or};
 ghost use Rattle.rule_words.specs.Rules.{same_count};
 ghost use Rattle.rule_first.specs.Broken.{first_in, first_row, first_end};
@@ -7,7 +9,7 @@ use rule_words::word_at;
 use word_reader::Sections;
 
 // A rule by its number, 0 for none; and the first mode, state, row or continuation that breaks it, counted from 0.
-#[derive(Drop)]
+#[derive(Clone, Copy)]
 pub struct Broken {
     pub rule: u32,
     pub item: u32,

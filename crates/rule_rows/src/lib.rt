@@ -1,5 +1,7 @@
 // What index rules 5, 6 and 8 ask of a row: of one of ASCII targets, of a wide row and of an escape row.
 // Each takes the words and the place of a row; a word past the end is 0, so every function takes any place.
+#![tactic(auto)]
+
 ghost use Rattle.std.specs.Prelude.{◌≡◌, ◌&&◌, ◌+◌, ◌<◌, ◌≤◌, length, get_or};
 ghost use Rattle.rule_words.specs.Rules.{each_word, both_good, ascii_good, follows, searchable, thirds, wide_good, escape_good, next_from};
 ghost use Rattle.rule_rows.specs.Thirds.{third_good, range_good};
@@ -71,7 +73,7 @@ fn next_from(words: &[u32], at: usize) -> u64
 }
 
 // The third number of a range: a target, judged by how many states there are; or a continuation, by how many of these.
-#[derive(Drop)]
+#[derive(Clone, Copy)]
 enum Third {
     Target(u32),
     Continuation(u32),

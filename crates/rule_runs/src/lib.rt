@@ -1,5 +1,7 @@
 // What index rule 4 asks of a run: it is the classification of its state's row.
 // It works on the words and the places of the sections' counts; a word past the end is 0, so every function takes any place.
+#![tactic(auto)]
+
 ghost use Rattle.std.specs.Prelude.{◌≡◌, ◌+◌, ◌-◌, ◌/◌, ltb, length};
 ghost use Rattle.refusal.specs.Lists.{pick};
 ghost use Rattle.rule_words.specs.Rules.{row_of, row_number, classified_words, stands, run_good};

@@ -1,5 +1,7 @@
 // What index rules 1 and 2 ask of a mode and of a state, and whether the flag of an accept is plain.
 // Each takes the words and the place of a record; a word past the end is 0, so every function takes any place.
+#![tactic(auto)]
+
 ghost use Rattle.std.specs.Prelude.{◌≡◌};
 ghost use Rattle.rule_words.specs.Rules.{start_good, state_good};
 ghost use Rattle.rule_words.specs.Flags.{accept_plain};

@@ -1,6 +1,8 @@
 // The walk over the records of a section that asks something of each: one loop, whatever the kind of record and the question.
 // Above it each index rule that walks over records, 1, 2, 4, 5, 6, 8 and 9: how many obey it before the first that does not. All work on the words
 // and the places of the sections' counts.
+#![tactic(auto)]
+
 ghost use Rattle.std.specs.Prelude.{◌≡◌};
 ghost use Rattle.rule_words.specs.Rules.{passing, item1, item2, item4, item5, item6, item8, item9};
 ghost use Rattle.rule_walk.specs.Questions.{asked_at, passes, passing_of, all_pass};
@@ -10,7 +12,7 @@ use word_reader::Place;
 
 // What is asked of a record, with the numbers that it is judged by: how many states, rows, accepts or continuations there are. A run is judged by
 // the places of the states' and the ASCII rows' counts.
-#[derive(Drop)]
+#[derive(Clone, Copy)]
 pub enum Question {
     StartIsState(u32),
     StateIsValid {

@@ -1,5 +1,7 @@
 // The index rules that decoding judges once a table's words are read, in document 01's order: specs/Rules defines all nine.
 // Here are the small readers and tests that the rules share; a word past the end is 0, so every function takes any place.
+#![tactic(auto)]
+
 ghost use Rattle.std.specs.Prelude.{◌≡◌, ◌+◌, get_or};
 ghost use Rattle.rule_words.specs.Rules.{good, none_or, present};
 ghost use Rattle.rule_words.specs.Flags.{plain};

@@ -1,5 +1,7 @@
 // Classes: of a byte (digit, hex letter, other letter, whitespace, underscore, quote, dollar or other), and of the ranges that the three
 // words of a kind-5 run hold (whitespace, number, identifier or other), by what their bytes are together.
+#![tactic(auto)]
+
 ghost use Rattle.std.specs.Prelude.{◌≡◌};
 ghost use Rattle.run_class.specs.Byte.{byte_number, byte_class};
 ghost use Rattle.run_ranges.specs.Ranges.{listed};
@@ -10,7 +12,7 @@ use refusal::{FIELD, MAX_RANGES, Refusal};
 use run_ranges::{AsciiRange, AsciiRanges, PackedRanges};
 
 // What a byte is by its value. Hex letters are A to F and a to f, and `Letter` is every other letter.
-#[derive(Drop)]
+#[derive(Clone, Copy)]
 pub enum ByteClass {
     Digit,
     HexLetter,
@@ -39,7 +41,7 @@ pub fn class_of_byte(byte: u8) -> ByteClass
 }
 
 // What the bytes of ranges are, all together.
-#[derive(Drop)]
+#[derive(Clone, Copy)]
 pub enum AsciiRangeClass {
     Whitespace,
     Number,
@@ -48,14 +50,14 @@ pub enum AsciiRangeClass {
 }
 
 // The class of the ranges, or a refusal where the words hold none.
-#[derive(Drop)]
+#[derive(Clone, Copy)]
 pub enum RangeClass {
     Class(AsciiRangeClass),
     Refused(Refusal),
 }
 
 // What was seen of some bytes: whether one is a digit or a letter, and whether all are whitespace, of a number, of an identifier.
-#[derive(Drop)]
+#[derive(Clone, Copy)]
 struct Seen {
     any_digit: bool,
     any_alpha: bool,

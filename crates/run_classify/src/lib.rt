@@ -1,5 +1,7 @@
 // The classification of a row: the exits of a state's row and the ranges on which it loops, found from left to right, and the run of the
 // state by these.
+#![tactic(auto)]
+
 ghost use Rattle.std.specs.Prelude.{◌≡◌, ◌+◌, drop};
 ghost use Rattle.refusal.specs.Lists.{before};
 ghost use Rattle.run_ranges.specs.Ranges.{loops_at, exits_at, up_to_four, loop_ranges};

@@ -1,27 +1,29 @@
 // Ranges of ASCII bytes: the type, and the two words that hold them, read and written. The ranges on which a row loops are in
 // `run_classify`, the scan by them in `run_scan`. What the Rust calls `Option<AsciiRanges>` is here an `AsciiRanges` whose count is 0
 // where there is none: a good list has 1 to 4.
+#![tactic(auto)]
+
 ghost use Rattle.std.specs.Prelude.{◌≡◌, ◌≤◌, ◌<◌, drop, take};
 ghost use Rattle.run_ranges.specs.Ranges.{no_ranges, ordered, is_zero, unused, checked, range_in, unpacked, ranges_of_run, follows, half_of, packed_of};
 
 use refusal::MAX_RANGES;
 
 // The bytes from low to high, both included.
-#[derive(Drop)]
+#[derive(Clone, Copy)]
 pub struct AsciiRange {
     pub low: u8,
     pub high: u8,
 }
 
 // The first `count` of the ranges; the places behind them are 0.
-#[derive(Drop)]
+#[derive(Clone, Copy)]
 pub struct AsciiRanges {
     pub ranges: [AsciiRange; 4],
     pub count: u8,
 }
 
 // The two words that hold four ranges as low, high bytes, least byte first.
-#[derive(Drop)]
+#[derive(Clone, Copy)]
 pub struct PackedRanges {
     pub first: u32,
     pub second: u32,

@@ -3,6 +3,8 @@
 // The words 261, 14640, 0 are the run of a row that loops on the digits, and the text is "10 ply": the run is one range, 48..57, and
 // `scan_scalar` counts the bytes before the first that lies in none, sixteen at once: 2. So the front part is "10", and an exit was
 // found, since bytes are left.
+#![tactic(auto)]
+
 ghost use Rattle.std.specs.Prelude.{◌≡◌, ◌≤◌, min, length, take, [], ◌∷◌};
 ghost use Rattle.refusal.specs.Lists.{pick, before};
 ghost use Rattle.run_ranges.specs.Ranges.{in_range, outside, listed, used_if};

@@ -1,5 +1,7 @@
 // The run of a state: the bytes on which the state's ASCII row loops, in a form that a scan can skip at once. Its words are in `run_words`,
 // the classification of a row in `run_classify`, the scan in `run_scan`.
+#![tactic(auto)]
+
 ghost use Rattle.std.specs.Prelude.{◌≡◌};
 ghost use Rattle.run_shape.specs.Shape.{answered, refused};
 ghost use Rattle.run_shape.specs.Words.{size_of};
@@ -8,7 +10,7 @@ use refusal::Refusal;
 use run_ranges::AsciiRanges;
 
 // No run; one that nothing stops; one that stops at its one to three exits; or one that stops at the first byte outside its ranges.
-#[derive(Drop)]
+#[derive(Clone, Copy)]
 pub enum AsciiRun {
     None,
     Any,
@@ -19,28 +21,28 @@ pub enum AsciiRun {
 }
 
 // A run, with the ranges' array beside the enum.
-#[derive(Drop)]
+#[derive(Clone, Copy)]
 pub struct Run {
     pub kind: AsciiRun,
     pub ranges: AsciiRanges,
 }
 
 // What classification and reading answer.
-#[derive(Drop)]
+#[derive(Clone, Copy)]
 pub enum Answered {
     Ran(AsciiRun),
     Refused(Refusal),
 }
 
 // The answer, with the ranges' array beside it.
-#[derive(Drop)]
+#[derive(Clone, Copy)]
 pub struct RunAnswer {
     pub answer: Answered,
     pub ranges: AsciiRanges,
 }
 
 // The words of a run: one, or three.
-#[derive(Drop)]
+#[derive(Clone, Copy)]
 pub struct RunWords {
     pub length: usize,
     pub first: u32,
@@ -49,13 +51,13 @@ pub struct RunWords {
 }
 
 // How far a run went, and whether an exit stopped it.
-#[derive(Drop)]
+#[derive(Clone, Copy)]
 pub struct AsciiRunScan {
     pub bytes: usize,
     pub found_exit: bool,
 }
 
-#[derive(Drop)]
+#[derive(Clone, Copy)]
 pub enum Scanned {
     NoRun,
     Skipped(AsciiRunScan),

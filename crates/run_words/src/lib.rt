@@ -1,4 +1,6 @@
 // A run's words: read at a place in a list, or alone; and written.
+#![tactic(auto)]
+
 ghost use Rattle.std.specs.Prelude.{◌≡◌, ◌<◌};
 ghost use Rattle.refusal.specs.Said.{FIELD};
 ghost use Rattle.run_ranges.specs.Ranges.{ranges_of_run};

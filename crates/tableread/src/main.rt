@@ -2,6 +2,8 @@
 // one line, `ok MODES STATES WORDS` or, as document 02 has it, `no NUMBER PLACE ITEM`.
 //
 //     rt check tableread && ./run tableread < crates/tableread/stdin
+#![tactic(auto)]
+
 mod line;
 
 ghost use Rattle.std.specs.Prelude.{◌≡◌, take};

@@ -5,6 +5,8 @@
 //
 // Proved: every part of the page (the head, a mode, a state, the line of a refusal) is the text that specs/Page says, for every room, cut off
 // where the page buffer ends. Not proved: that a state's text is never longer than the buffer, and the order in which `main` prints the parts.
+#![tactic(auto)]
+
 mod forms;
 mod page;
 mod rows;

@@ -1,5 +1,7 @@
 // Where the sections of a table start: the words are read once, section by section, or refused by number and place. Before that decoding
 // asks for a room that is long enough, and not too many words.
+#![tactic(auto)]
+
 ghost use Rattle.std.specs.Prelude.{◌≡◌};
 ghost use Rattle.word_reader.specs.Parse.{and_then, section};
 ghost use Rattle.word_sections.specs.Kinds.{record_at};
@@ -11,7 +13,7 @@ use word_reader::{Place, Sections};
 use word_sections::Kind;
 
 // The sections of a table, or why the words are none.
-#[derive(Drop)]
+#[derive(Clone, Copy)]
 pub enum Layout {
     Found(Sections),
     Unfound(Refusal),

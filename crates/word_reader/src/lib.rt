@@ -1,6 +1,8 @@
 // The covered reader of a table's words: a slice and a number for the place. Each record of a table has a reader, which says where
 // reading goes on behind the record, or refuses by number and place. Here is what all readers share, and in specs/ what each record is;
 // the readers stand in `simple_words`, `run_words`, `listed_words`, `wide_words` and `continuation_words`.
+#![tactic(auto)]
+
 ghost use Rattle.std.specs.Prelude.{◌≡◌, ◌-◌, length};
 ghost use Rattle.refusal.specs.Said.{FIELD};
 ghost use Rattle.word_reader.specs.Parse.{short, refused};
@@ -11,14 +13,14 @@ use refusal::{FIELD, Refusal, SHORT};
 pub const MAX_TARGET: u32 = 65535;
 
 // Where reading goes on, or why it does not.
-#[derive(Drop)]
+#[derive(Clone, Copy)]
 pub enum Place {
     Next(usize),
     Refused(Refusal),
 }
 
 // Where the sections of a table start: the places of their counts among its words.
-#[derive(Drop)]
+#[derive(Clone, Copy)]
 pub struct Sections {
     pub modes: usize,
     pub states: usize,

@@ -1,6 +1,8 @@
 // The readers of the records of a table, one for each kind: modes, states, runs, ascii rows, wide rows, accepts, escape rows, configs and
 // continuations. Each says where reading goes on behind the record, or refuses by number and place, in document 01's order of SHORT and
 // FIELD.
+#![tactic(auto)]
+
 ghost use Rattle.std.specs.Prelude.{◌≡◌};
 ghost use Rattle.word_reader.specs.Records.{mode_at, state_at, run_at, ascii_at, range_at, wide_at, triple_at, accept_at};
 ghost use Rattle.word_reader.specs.Records.{escape_at, config_at, context_at, continuation_at};

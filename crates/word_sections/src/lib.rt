@@ -1,4 +1,6 @@
 // The records of a table by their kind: one reader for a record of any kind, and one loop for the sections, each a count and so many records.
+#![tactic(auto)]
+
 ghost use Rattle.std.specs.Prelude.{◌≡◌};
 ghost use Rattle.word_reader.specs.Parse.{many, section};
 ghost use Rattle.word_sections.specs.Kinds.{record_at};
@@ -6,7 +8,7 @@ ghost use Rattle.word_sections.specs.Kinds.{record_at};
 use word_reader::Place;
 
 // The kinds of records, in the order of their sections.
-#[derive(Drop)]
+#[derive(Clone, Copy)]
 pub enum Kind {
     Mode,
     State,

@@ -1,6 +1,8 @@
 // The reader of the Rust, `SerializedReader`: it keeps the words and a position together. Its functions are thin, over the covered readers,
 // which take a slice and a number; `read_opening` reads by it what the Rust's `from_serialized` reads first, the tag and how many modes a
 // table has. No proof is made for code over a struct that holds a slice, so what takes or holds one is walked by hand.
+#![tactic(auto)]
+
 ghost use Rattle.std.specs.Prelude.{◌≡◌};
 ghost use Rattle.word_reader.specs.Records.{state_at};
 ghost use Rattle.word_serialized.specs.Reader.{Moves, word_at, past_word, past_record, past_state};
@@ -17,7 +19,7 @@ pub struct SerializedReader<'a> {
 }
 
 // The next word, or nothing at the end.
-#[derive(Drop)]
+#[derive(Clone, Copy)]
 pub enum Word {
     Value(u32),
     End,
@@ -80,7 +82,7 @@ impl<'a> SerializedReader<'a> {
 }
 
 // How many modes a table has, or why the words do not begin one.
-#[derive(Drop)]
+#[derive(Clone, Copy)]
 pub enum Opening {
     Modes(u32),
     Refused(Refusal),

@@ -1,0 +1,18 @@
+-- The header is there, or nothing is found.
+use Rattle.room_find.proofs.Records.{cases}
+use Rattle.room_find.proofs.find_state.Goals as goal
+
+pub bounds-room-2 : goal.bounds-room-2
+bounds-room-2 c = search cases
+
+pub bounds-room-3 : goal.bounds-room-3
+bounds-room-3 c = search cases
+
+pub record_in-requires : goal.record_in-requires
+record_in-requires c = search cases
+
+pub returns-then-room-gt-CONTINUATIONS_START : goal.returns-then-room-gt-CONTINUATIONS_START
+returns-then-room-gt-CONTINUATIONS_START c = search cases
+
+pub returns : goal.returns
+returns c = search cases

@@ -1,0 +1,13 @@
+-- The lists that are left, from here, lead to what all of them lead to.
+use Prim.Native.Nat.{◌+◌}
+use Rattle.room_find.specs.Room.{listed_in, past_lists}
+use Rattle.room_find.proofs.Laws.{Left}
+use Rattle.room_find.proofs.past_lists.Given as goal
+
+abbrev pub invariant-loop-left : goal.invariant-loop-left
+invariant-loop-left l =
+    let f = listed_in l.room l.start l.end l.i in
+    Left l.room f (past_lists l.room l.count 0 (9 + l.words) f) l.left l.j l.list
+
+abbrev pub decreases-loop-left : goal.decreases-loop-left
+decreases-loop-left l = l.left

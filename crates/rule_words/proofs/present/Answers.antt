@@ -1,0 +1,5 @@
+-- The tests are the definition's.
+use Rattle.rule_words.proofs.present.Goals as goal
+
+pub returns : goal.returns
+returns c = cc

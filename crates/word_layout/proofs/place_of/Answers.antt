@@ -1,0 +1,15 @@
+-- By the two cases.
+use Rattle.word_layout.proofs.Chain.{chain}
+use Rattle.word_layout.proofs.place_of.Goals as goal
+
+pub enum_known-at : goal.enum_known-at
+enum_known-at c = search chain
+
+pub enum_told-1 : goal.enum_told-1
+enum_told-1 c = search chain
+
+pub returns-in-Next : goal.returns-in-Next
+returns-in-Next c = search chain
+
+pub returns-in-Refused : goal.returns-in-Refused
+returns-in-Refused c = search chain

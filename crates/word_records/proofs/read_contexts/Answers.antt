@@ -1,0 +1,24 @@
+-- The count is there, or the input ends.
+use Rattle.word_reader.proofs.Laws.{counting}
+use Rattle.word_records.proofs.read_contexts.Goals as goal
+
+pub short-requires : goal.short-requires
+short-requires c = search counting
+
+pub returns-then-words-at : goal.returns-then-words-at
+returns-then-words-at c = search counting
+
+pub offset_bounds-words-at : goal.offset_bounds-words-at
+offset_bounds-words-at c = search counting
+
+pub bounds-words-at : goal.bounds-words-at
+bounds-words-at c = search counting
+
+pub overflow_add-at : goal.overflow_add-at
+overflow_add-at c = search counting
+
+pub contexts-requires : goal.contexts-requires
+contexts-requires c = search counting
+
+pub returns : goal.returns
+returns c = search counting
