@@ -183,6 +183,8 @@ def convert(crate, path, fun, module, said):
     if not m:
         said.append("no tie.spec")
         return False
+    opened_names = re.search(r"^unfolding (.*)$", final, re.M)
+    opened_names = opened_names.group(0) if opened_names else ""
     args_text = m.group(1).strip()
     # the bracket that was opened before tie.spec
     opened = final[:m.start()].count("(") - final[:m.start()].count(")")
@@ -246,7 +248,7 @@ def convert(crate, path, fun, module, said):
                 e = re.sub(r"^λ _( _)?\.\s*", "", e)
             else:
                 e = "(%s) c" % e if " " in e else "%s c" % e
-        if e in ("search rules", "search needs"):
+        if e in ("search rules", "search needs") and not opened_names:
             continue
         answers.append((new, rename_steps(e, fun, said)))
     helpers = [d for n, d in defs if n not in used_names]
@@ -260,7 +262,7 @@ def convert(crate, path, fun, module, said):
         lines = head + used(body, uses, ["use %s.Given as goal" % own]) + ["", code, ""]
         open(os.path.join(folder, "Invariants.antt"), "w").write("\n".join(lines))
     if answers or helpers:
-        code = "\n\n".join(helpers + ["pub %s : goal.%s\n%s c = %s" % (n, n, n, e if "\n" not in e else "\n    " + e) for n, e in answers])
+        code = "\n\n".join(helpers + ["pub %s : goal.%s\n%s%s c = %s" % (n, n, opened_names + "\n" if opened_names else "", n, e if "\n" not in e else "\n    " + e) for n, e in answers])
         lines = (head if not inv else []) + used(code, uses, ["use %s.Goals as goal" % own]) + ["", code, ""]
         open(os.path.join(folder, "Answers.antt"), "w").write("\n".join(lines))
     os.remove(path)

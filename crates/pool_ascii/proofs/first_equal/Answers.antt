@@ -5,7 +5,7 @@ pub loop-left-init : goal.loop-left-init
 loop-left-init c = search finding
 
 pub same_at-requires : goal.same_at-requires
-same_at-requires c = (search finding, search finding)
+same_at-requires c = record { within = search finding; size = search finding }
 
 pub returns-then-same_at : goal.returns-then-same_at
 returns-then-same_at c = search finding

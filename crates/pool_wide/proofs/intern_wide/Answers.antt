@@ -33,7 +33,7 @@ pub overflow_cast-count : goal.overflow_cast-count
 overflow_cast-count c = search answering-wide
 
 pub find_or_append-requires : goal.find_or_append-requires
-find_or_append-requires c = (search answering-wide, (search answering-wide, (search answering-wide, search answering-wide)))
+find_or_append-requires c = record { within = search answering-wide; ends = search answering-wide; counts = search answering-wide; size = search answering-wide }
 
 pub shape_of-pool-then-in_threes : goal.shape_of-pool-then-in_threes
 shape_of-pool-then-in_threes c = search answering-wide

@@ -30,7 +30,7 @@ pub enum_known-p : goal.enum_known-p
 enum_known-p c = search recording
 
 pub put_continuation-m-requires : goal.put_continuation-m-requires
-put_continuation-m-requires c = (search (rules, was), search (rules, continuation-room))
+put_continuation-m-requires c = record { read = search (rules, was); fits = search (rules, continuation-room) }
 
 pub overflow_sub-left : goal.overflow_sub-left
 overflow_sub-left c = search recording

@@ -30,7 +30,7 @@ pub enum_known-p : goal.enum_known-p
 enum_known-p c = search recording
 
 pub put_flagged-m-requires : goal.put_flagged-m-requires
-put_flagged-m-requires c = (search (rules, was), search (rules, flagged_room))
+put_flagged-m-requires c = record { read = search (rules, was); fits = search (rules, flagged_room) }
 
 pub overflow_sub-left : goal.overflow_sub-left
 overflow_sub-left c = search recording

@@ -9,10 +9,10 @@ pub bounds-room-0 : goal.bounds-room-0
 bounds-room-0 c = search heading
 
 pub put_four-n-requires : goal.put_four-n-requires
-put_four-n-requires c = ((search heading, (search heading, (search heading, search heading))), search heading)
+put_four-n-requires c = record { a_bound = (search heading, (search heading, (search heading, search heading))); fits = search heading }
 
 pub put_four-requires : goal.put_four-requires
-put_four-requires c = ((search heading, (search heading, (search heading, search heading))), search heading)
+put_four-requires c = record { a_bound = (search heading, (search heading, (search heading, search heading))); fits = search heading }
 
 pub shape_of-room : goal.shape_of-room
 shape_of-room c = search heading

@@ -6,10 +6,10 @@ pub overflow_sub-s : goal.overflow_sub-s
 overflow_sub-s c = search writing
 
 pub copy_words-m-requires : goal.copy_words-m-requires
-copy_words-m-requires c = (search writing, search first)
+copy_words-m-requires c = record { within = search writing; fits = search first }
 
 pub renew_continuations-requires : goal.renew_continuations-requires
-renew_continuations-requires c = (search writing, search second)
+renew_continuations-requires c = record { within = search writing; fits = search second }
 
 pub shape_of-room : goal.shape_of-room
 shape_of-room c = search writing

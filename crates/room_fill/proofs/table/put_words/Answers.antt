@@ -4,16 +4,13 @@ use Rattle.room_fill.proofs.Tables.{writing, first, middle}
 use Rattle.room_fill.proofs.table.put_words.Goals as goal
 
 pub copy_words-a-requires : goal.copy_words-a-requires
-copy_words-a-requires c = (search writing, search first)
+copy_words-a-requires c = record { within = search writing; fits = search first }
 
 pub renew_flagged-b-requires : goal.renew_flagged-b-requires
-renew_flagged-b-requires c = (search writing, search middle)
+renew_flagged-b-requires c = record { within = search writing; fits = search middle }
 
 pub put_later_words-requires : goal.put_later_words-requires
-put_later_words-requires c = (
-  search writing,
-  three_room _ _ _ _ _ c.renew_flagged-b.ensures c.copy_words-a.ensures c.requires.1,
-)
+put_later_words-requires c = record { found = search writing; fits = three_room _ _ _ _ _ c.renew_flagged-b.ensures c.copy_words-a.ensures c.requires.1 }
 
 pub shape_of-room : goal.shape_of-room
 shape_of-room c = search writing
