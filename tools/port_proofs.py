@@ -113,8 +113,108 @@ def used(body, uses, extra):
     return out + extra
 
 
+def clause_names():
+    """The names of each function's clauses, by its path."""
+    out = {}
+    for path in glob.glob("crates/*/src/**/*.rt", recursive=True):
+        parts = path.split("/")
+        crate, inner = parts[1], "/".join(parts[3:])[:-3]
+        module = [] if inner in ("lib", "main") else inner.split("/")
+        fn, holder = None, ""
+        for line in open(path):
+            m = re.match(r"(?:impl(?:<[^>]*>)? (\w+))", line)
+            if m:
+                holder = m.group(1)
+            if line.startswith("}"):
+                holder = ""
+            m = re.match(r"(\s*)(?:pub(?:\([a-z]+\))? )?(?:extern \"C\" )?fn (\w+)", line)
+            if m:
+                fn = "::".join([crate] + module + ([holder] if m.group(1) and holder else []) + [m.group(2)])
+                out[fn] = {"requires": [], "ensures": []}
+            m = re.match(r"\s*(requires|ensures) (\w*)\s*\{", line)
+            if m and fn:
+                out[fn][m.group(1)].append(m.group(2))
+    return out
+
+
+def by_clause(path, names):
+    """A nested pair's part, .1.1.0, as the clause of that name."""
+    parts, k = path.strip(".").split(".") if path.strip(".") else [], 0
+    if len(names) < 2:
+        return path
+    while k < len(names) - 1:
+        if not parts or parts[0] not in "01":
+            return path
+        one = parts.pop(0)
+        if one == "0":
+            break
+        k += 1
+    return "." + ".".join([names[k]] + parts)
+
+
+def commas(text):
+    out, depth, now = [], 0, ""
+    for ch in text:
+        depth += ch in OPEN
+        depth -= ch in SHUT
+        if ch == "," and depth == 0:
+            out.append(now.strip())
+            now = ""
+        else:
+            now += ch
+    return out + [now.strip()] if now.strip() else out
+
+
+def parts_of(text, n):
+    """The n parts of a nested pair."""
+    text = strip_parens(text)
+    if n == 1:
+        return [text]
+    if not text.startswith("("):
+        return None
+    parts = commas(text[1:-1])
+    if len(parts) == n:
+        return parts
+    if len(parts) == 2:
+        rest = parts_of(parts[1], n - 1)
+        if rest:
+            return [parts[0]] + rest
+        rest = parts_of(parts[0], n - 1)
+        if rest:
+            return rest + [parts[1]]
+    return None
+
+
+def as_record(need, text, fun):
+    """An answer to what a call requires, by the names of the callee's clauses."""
+    m = re.match(r"(.*)-requires", need)
+    if not m:
+        return text
+    step = m.group(1)
+    best = ""
+    for callee in fun.params:
+        name = callee.split("::")[-1]
+        if (step == name or step.startswith(name + "-")) and len(name) > len(best.split("::")[-1]):
+            best = callee
+    names = fun.clauses.get(best, {"requires": []})["requires"]
+    if len(names) < 2:
+        return text
+    lead, body = "", text
+    m = re.match(r"((?:let .*?\bin\s+)+)(\(.*\))$", text, re.S)
+    if m:
+        lead, body = m.group(1), m.group(2)
+    parts = parts_of(body, len(names))
+    if not parts:
+        return text
+    return lead + "record { " + "; ".join("%s = %s" % (n, p) for n, p in zip(names, parts)) + " }"
+
+
 class Fun:
-    def __init__(self, entry):
+    def __init__(self, entry, clauses=None, path=""):
+        self.callees = {}
+        self.params = entry.get("params") or {}
+        self.clauses = clauses or {}
+        self.own = self.clauses.get(path, {"requires": [], "ensures": []})
         self.needs = entry.get("needs") or []
         self.loops = entry.get("loops") or []
         self.changed = entry.get("changed") or []
@@ -124,6 +224,8 @@ class Fun:
             for part in place:
                 if isinstance(part, list) and len(part) == 2 and all(isinstance(p, str) for p in part) and part[0]:
                     self.step(part[0], part[1])
+                    if len(place) > 3 and isinstance(place[3], str):
+                        self.callees[part[1]] = place[3]
 
     def step(self, old, new):
         for key in {old, old.replace("_", "-")}:
@@ -154,7 +256,15 @@ def rename_steps(text, fun, said):
     for name in sorted(places - {"c"}, key=len, reverse=True):
         text = re.sub(r"\s*\blet " + re.escape(name) + r" = \w[\w'-]* in\b", "", text)
         text = re.sub(r"(?<![\w'.-])" + re.escape(name) + r"(?=\.)", "c", text)
-    return re.sub(r"((?<![\w'.-])c\.)([\w'-]+)", one, text)
+    text = re.sub(r"((?<![\w'.-])c\.)([\w'-]+)", one, text)
+    for m in list(re.finditer(r"\s*\blet (\w+) = c\.requires in\b", text)):
+        text = text.replace(m.group(0), "")
+        text = re.sub(r"(?<![\w'.-])" + m.group(1) + r"(?=[.\s)])", "c.requires", text)
+    text = re.sub(r"(?<![\w'.-])c\.requires((?:\.[01])+)(?![\w])", lambda m: "c.requires" + by_clause(m.group(1), fun.own["requires"]), text)
+    def clause(m):
+        callee = fun.clauses.get(fun.callees.get(m.group(1), ""), {"ensures": []})
+        return "c." + m.group(1) + ".ensures" + by_clause(m.group(2), callee["ensures"])
+    return re.sub(r"(?<![\w'.-])c\.([\w'-]+)\.ensures((?:\.[01])+)(?![\w])", clause, text)
 
 
 def convert(crate, path, fun, module, said):
@@ -238,8 +348,10 @@ def convert(crate, path, fun, module, said):
         e = strip_parens(expr)
         if e in by_name and by_name[e].find("tie.") >= 0:
             used_names.add(e)
-            got = body_of(by_name[e], e)
-            e = got[1]
+            own_names = re.search(r"^unfolding (.*)$", by_name[e], re.M)
+            own_names = own_names.group(0) if own_names else opened_names
+            answers.append((new, as_record(new, rename_steps(body_of(by_name[e], e)[1], fun, said), fun), own_names))
+            continue
         else:
             m = re.match(r"λ c(?: κs)?\.\s*", e)
             if m:
@@ -250,7 +362,7 @@ def convert(crate, path, fun, module, said):
                 e = "(%s) c" % e if " " in e else "%s c" % e
         if e in ("search rules", "search needs") and not opened_names:
             continue
-        answers.append((new, rename_steps(e, fun, said)))
+        answers.append((new, as_record(new, rename_steps(e, fun, said), fun), opened_names))
     helpers = [d for n, d in defs if n not in used_names]
     folder = os.path.dirname(path)
     own = "Rattle.%s.proofs.%s" % (crate, module)
@@ -262,7 +374,7 @@ def convert(crate, path, fun, module, said):
         lines = head + used(body, uses, ["use %s.Given as goal" % own]) + ["", code, ""]
         open(os.path.join(folder, "Invariants.antt"), "w").write("\n".join(lines))
     if answers or helpers:
-        code = "\n\n".join(helpers + ["pub %s : goal.%s\n%s%s c = %s" % (n, n, opened_names + "\n" if opened_names else "", n, e if "\n" not in e else "\n    " + e) for n, e in answers])
+        code = "\n\n".join(helpers + ["pub %s : goal.%s\n%s%s c = %s" % (n, n, u + "\n" if u else "", n, e if "\n" not in e else "\n    " + e) for n, e, u in answers])
         lines = (head if not inv else []) + used(code, uses, ["use %s.Goals as goal" % own]) + ["", code, ""]
         open(os.path.join(folder, "Answers.antt"), "w").write("\n".join(lines))
     os.remove(path)
@@ -283,6 +395,7 @@ def main():
             sys.exit("port_proofs: no names for " + crate)
         names = json.load(open(out + "/names.json"))
     shutil.rmtree(out)
+    clauses = clause_names()
     for path in sorted(glob.glob(folder + "/proofs/**/Proof.antt", recursive=True)):
         module = os.path.dirname(path)[len(folder + "/proofs/"):].replace("/", ".")
         if only and module not in only and module.split(".")[-1] not in only:
@@ -296,7 +409,7 @@ def main():
             continue
         said = []
         try:
-            done = convert(crate, path, Fun(names[key]), module, said)
+            done = convert(crate, path, Fun(names[key], clauses, crate + "::" + module.replace(".", "::")), module, said)
         except Exception as e:
             done = False
             said.append(repr(e))

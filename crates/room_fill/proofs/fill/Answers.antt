@@ -24,7 +24,7 @@ pub returns-in-Found : goal.returns-in-Found
 returns-in-Found c =
     let got = c.find_within_limits.ensures in
     let empty = c.clear.ensures in
-    (search filling, all_there _ _ c.put_table.ensures c.sections-1.given.1 got empty)
+    (search filling, all_there _ _ c.put_table.ensures c.in-Found.is got empty)
 
 pub shape_of-room-in-Unfound : goal.shape_of-room-in-Unfound
 shape_of-room-in-Unfound c = search filling

@@ -1,5 +1,4 @@
 -- The places that do not count are ranges that hold nothing.
-use Rattle.run_ranges.proofs.Fields.{four_ranges}
 use Rattle.run_scan.proofs.RangeScans.{scan_used}
 use Rattle.run_scan.proofs.scan_scalar.Goals as goal
 
@@ -8,4 +7,4 @@ returns c =
     let rs = c.args.ranges.ranges in
     scan_used rs c.args.ranges.count c.args.input.now c.scan_four.ensures
     c.used-a.ensures c.used-b.ensures c.used-c.ensures c.used-d.ensures
-    (four_ranges rs 4 c.good.0.1.1.0.1.0.1)
+    c.well_formed.0.1.1.0.1.0.1

@@ -10,12 +10,11 @@ pub put_record_places-b-requires : goal.put_record_places-b-requires
 put_record_places-b-requires c = record { within = search writing; limit = search writing; fits = search middle }
 
 pub put_later_places-requires : goal.put_later_places-requires
-put_later_places-requires c = record { found = search writing; limit = search writing; fits = three_room _ _ _ _ _ c.put_record_places-b.ensures c.put_record_places-a.ensures c.requires.1.1 }
+put_later_places-requires c = record { found = search writing; limit = search writing; fits = three_room _ _ _ _ _ c.put_record_places-b.ensures c.put_record_places-a.ensures c.requires.fits }
 
 pub shape_of-room : goal.shape_of-room
 shape_of-room c = search writing
 
 pub returns : goal.returns
 returns c =
-    let p = c.requires in
-    three_put _ _ _ _ _ c.put_later_places.ensures c.put_record_places-b.ensures c.put_record_places-a.ensures p.1.1
+    three_put _ _ _ _ _ c.put_later_places.ensures c.put_record_places-b.ensures c.put_record_places-a.ensures c.requires.fits

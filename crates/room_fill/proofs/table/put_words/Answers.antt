@@ -10,12 +10,11 @@ pub renew_flagged-b-requires : goal.renew_flagged-b-requires
 renew_flagged-b-requires c = record { within = search writing; fits = search middle }
 
 pub put_later_words-requires : goal.put_later_words-requires
-put_later_words-requires c = record { found = search writing; fits = three_room _ _ _ _ _ c.renew_flagged-b.ensures c.copy_words-a.ensures c.requires.1 }
+put_later_words-requires c = record { found = search writing; fits = three_room _ _ _ _ _ c.renew_flagged-b.ensures c.copy_words-a.ensures c.requires.fits }
 
 pub shape_of-room : goal.shape_of-room
 shape_of-room c = search writing
 
 pub returns : goal.returns
 returns c =
-    let p = c.requires in
-    three_put _ _ _ _ _ c.put_later_words.ensures c.renew_flagged-b.ensures c.copy_words-a.ensures p.1
+    three_put _ _ _ _ _ c.put_later_words.ensures c.renew_flagged-b.ensures c.copy_words-a.ensures c.requires.fits
