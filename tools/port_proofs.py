@@ -317,7 +317,7 @@ def convert(crate, path, fun, module, said):
             binders, body = body_of(by_name[name], name)
             for b in binders:
                 plain = b.rstrip("₀")
-                to = ("l.initial." if b.endswith("₀") else "l.") + plain
+                to = ("l.initial." if b.endswith("₀") else "l.") + plain.replace("-", "_")
                 if b == "_":
                     continue
                 body = re.sub(r"(?<![\w'.₀-])" + re.escape(b) + r"(?![\w'₀-])", to, body)

@@ -1,7 +1,0 @@
--- The answer in C is what the call says, case by case.
-use Rattle.c_runs.proofs.Calls.{calling}
-use Rattle.c_runs.proofs.lexer_dfa_read_run.Statement.{statement}
-use Rattle.c_runs.proofs.lexer_dfa_read_run.Tie as tie
-
-pub lexer-dfa-read-run-spec : {M : Type 1} → statement M
-lexer-dfa-read-run-spec = tie.close (tie.spec (λ c κs. search calling) (λ c κs. search calling) (λ c. search calling))

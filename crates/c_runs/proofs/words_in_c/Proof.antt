@@ -1,9 +1,0 @@
--- The answer in C is what the call says, case by case.
-use Rattle.c_runs.proofs.Calls.{calling}
-use Rattle.c_runs.proofs.words_in_c.Statement.{statement}
-use Rattle.c_runs.proofs.words_in_c.Tie as tie
-
-pub words-in-c-spec : {M : Type 1} → statement M
-words-in-c-spec =
-    tie.close
-    (tie.spec (λ c. search calling) (λ c κs. search calling) (λ c. search calling) (λ c. search calling) (λ c. search calling))

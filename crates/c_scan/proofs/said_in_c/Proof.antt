@@ -1,7 +1,0 @@
--- The answer in C is what the call says, case by case.
-use Rattle.c_scan.proofs.Calls.{calling}
-use Rattle.c_scan.proofs.said_in_c.Statement.{statement}
-use Rattle.c_scan.proofs.said_in_c.Tie as tie
-
-pub said-in-c-spec : {M : Type 1} → statement M
-said-in-c-spec = tie.close (tie.spec (λ c. search calling) (λ c. search calling) (λ c. search calling) (λ c. search calling) (λ c. search calling))

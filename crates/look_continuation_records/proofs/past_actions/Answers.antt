@@ -1,0 +1,18 @@
+-- Each answer is the case that the tests on the way say.
+use Rattle.look_continuation_records.proofs.WholeLaws.{cases}
+use Rattle.look_continuation_records.proofs.past_actions.Goals as goal
+
+pub overflow_mul-next : goal.overflow_mul-next
+overflow_mul-next c = search cases
+
+pub overflow_add-next : goal.overflow_add-next
+overflow_add-next c = search cases
+
+pub overflow_add-next-2 : goal.overflow_add-next-2
+overflow_add-next-2 c = search cases
+
+pub returns-then-next-end : goal.returns-then-next-end
+returns-then-next-end c = search cases
+
+pub returns : goal.returns
+returns c = search cases
