@@ -1,5 +1,5 @@
 // The search of a row of ranges: to the first range whose high reaches the symbol. In a room, which may be of any length and hold any
-// numbers; and over a lent slice of range records (`wide_target`), walked by hand, which answers what the search over numbers does.
+// numbers; and over a lent slice of range records (`wide_target`), which answers what the search over numbers does.
 #![tactic(auto)]
 
 ghost use Rattle.std.specs.Prelude.{◌≡◌, ◌≤◌, ◌<◌, ◌+◌, ◌*◌, length};

@@ -1,4 +1,3 @@
-pub mod Parts
 pub mod ReaderSaid
 pub mod ReaderUnique
 pub mod Laws

@@ -4,7 +4,7 @@ use lib.ListN.{get_or}
 use Rattle.refusal.specs.Said.{Said, ok, no_by}
 use Rattle.word_serialized.specs.declared.Opening.{Opening}
 use Rattle.word_serialized.specs.declared.Opening.TheVariants.{Modes, Refused}
-use Rattle.word_serialized.specs.Opened.{opening_said, refused}
+use Rattle.word_serialized.specs.Opened.{opening_said}
 
 abbrev back : Said → Opening
 back (ok l) = Modes (get_or l 0 0)

@@ -1,6 +1,6 @@
 // The reader of the Rust, `SerializedReader`: it keeps the words and a position together. Its functions are thin, over the covered readers,
 // which take a slice and a number; `read_opening` reads by it what the Rust's `from_serialized` reads first, the tag and how many modes a
-// table has. No proof is made for code over a struct that holds a slice, so what takes or holds one is walked by hand.
+// table has.
 #![tactic(auto)]
 
 ghost use Rattle.std.specs.Prelude.{◌≡◌};
@@ -12,7 +12,7 @@ use refusal::{Refusal, SERIALIZED_TAG, SHORT, TAG};
 use word_reader::Place;
 
 // The words of a table, and where reading goes on.
-#[derive(Drop)]
+#[derive(Clone, Copy)]
 pub struct SerializedReader<'a> {
     pub data: &'a [u32],
     pub position: usize,

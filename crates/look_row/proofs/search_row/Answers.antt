@@ -3,18 +3,6 @@ use Rattle.look_row.specs.Search.{searched}
 use Rattle.room_find.proofs.Records.{cases}
 use Rattle.look_row.proofs.search_row.Goals as goal
 
-pub offset_bounds-room-at : goal.offset_bounds-room-at
-unfolding searched
-offset_bounds-room-at c = search cases
-
-pub bounds-room-at : goal.bounds-room-at
-unfolding searched
-bounds-room-at c = search cases
-
-pub search_counted-requires : goal.search_counted-requires
-unfolding searched
-search_counted-requires c = search cases
-
 pub returns-then-at-end : goal.returns-then-at-end
 unfolding searched
 returns-then-at-end c = search cases

@@ -1,44 +1,34 @@
-use Prim.Native.Nat.{ℕ, ◌+◌, ◌≤◌, ◌<◌}
-use mathlib.Core.Path.{◌≡◌, refl, sym, ◌∙◌, ap}
-use mathlib.Core.List.{List}
+-- The first range whose high reaches the symbol is chosen, or its low passes the symbol; else the search goes on behind it.
+use Rattle.std.proofs.Common.{ap, ◌∙◌, sym, List}
 use native.Mathlib.Numerals.{add-one}
 use borrow.Author.Tests.{le-leb, lt-leb}
-use lib.ListN.{length, get_or, drop, drop_of_length-le}
-use Rattle.refusal.specs.Fixed.{DEAD-STATE}
+use lib.ListN.{drop_of_length-le}
 use Rattle.look_row.specs.declared.WideRange.{WideRange}
 use Rattle.look_row.specs.Ranges.{target_in}
 use Rattle.look_row.proofs.Laws.{at_place, no-range}
 use Rattle.look_row.proofs.wide_target.Goals as goal
 
+-- what stands past the end of a row
 abbrev none : WideRange
 none = record { low = 0; high = 0; target = 0 }
 
--- the range at place i decides
-here : (ys : List WideRange) (x i : ℕ) → i < length ys → target_in (drop i ys) x ≡ target_in ys x →
-    x ≤ (get_or ys i none).high → (get_or ys i none).low ≤ x → (get_or ys i none).target ≡ target_in ys x
-here ys x i l e h k = sym (at_place ys x i none l ∙ (rw (le-leb x (get_or ys i none).high h, le-leb (get_or ys i none).low x k))) ∙ e
-
-gap : (ys : List WideRange) (x i : ℕ) → i < length ys → target_in (drop i ys) x ≡ target_in ys x →
-    x ≤ (get_or ys i none).high → x < (get_or ys i none).low → DEAD-STATE ≡ target_in ys x
-gap ys x i l e h k = sym (at_place ys x i none l ∙ (rw (le-leb x (get_or ys i none).high h, lt-leb (get_or ys i none).low x k))) ∙ e
-
--- it is passed
-past : (ys : List WideRange) (x i : ℕ) → i < length ys → target_in (drop i ys) x ≡ target_in ys x →
-    (get_or ys i none).high < x → target_in (drop (i + 1) ys) x ≡ target_in ys x
-past ys x i l e h = rw add-one (sym (at_place ys x i none l ∙ (rw (lt-leb x (get_or ys i none).high h))) ∙ e)
-
 pub returns-then-range-symbol : goal.returns-then-range-symbol
 returns-then-range-symbol c =
-    here c.args.row.now c.args.symbol c.loop-i.i c.loop-i-test.true c.loop-i.invariant c.if-symbol-range.true c.if-range-symbol.true
+    simp (le-leb _ _ c.if-symbol-range.true, le-leb _ _ c.if-range-symbol.true)
+    at (sym (at_place c.args.row.now c.args.symbol c.loop-i.i none c.loop-i-test.true) ∙ c.loop-i.invariant)
 
 pub returns-else-range-symbol : goal.returns-else-range-symbol
 returns-else-range-symbol c =
-    gap c.args.row.now c.args.symbol c.loop-i.i c.loop-i-test.true c.loop-i.invariant c.if-symbol-range.true c.if-range-symbol.false
+    simp (le-leb _ _ c.if-symbol-range.true, lt-leb _ _ c.if-range-symbol.false)
+    at (sym (at_place c.args.row.now c.args.symbol c.loop-i.i none c.loop-i-test.true) ∙ c.loop-i.invariant)
 
 pub loop-i-preserved : goal.loop-i-preserved
-loop-i-preserved c = past c.args.row.now c.args.symbol c.loop-i.i c.loop-i-test.true c.loop-i.invariant c.if-symbol-range.false
+loop-i-preserved c =
+    rw add-one
+    (simp (lt-leb _ _ c.if-symbol-range.false)
+    at (sym (at_place c.args.row.now c.args.symbol c.loop-i.i none c.loop-i-test.true) ∙ c.loop-i.invariant))
 
 pub returns : goal.returns
 returns c =
-    sym (ap (λ (ys : List WideRange). target_in ys c.args.symbol) (drop_of_length-le c.args.row.now c.loop-i-test.false)
-    ∙ no-range c.args.symbol) ∙ c.loop-i.invariant
+    sym (no-range c.args.symbol)
+    ∙ sym (ap (λ (rs : List WideRange). target_in rs c.args.symbol) (drop_of_length-le c.args.row.now c.loop-i-test.false)) ∙ c.loop-i.invariant

@@ -1,4 +1,4 @@
--- The search from place i on gives what the whole search gives. The measure is how many ranges are left.
+-- The ranges from here on lead where all of them do.
 use Rattle.std.proofs.Common.{length, drop, ◌-◌, ◌≡◌}
 use Rattle.look_row.specs.Ranges.{target_in}
 use Rattle.look_row.proofs.wide_target.Given as goal

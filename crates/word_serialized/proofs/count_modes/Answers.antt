@@ -2,12 +2,6 @@
 use Rattle.word_serialized.proofs.Laws.{judging}
 use Rattle.word_serialized.proofs.count_modes.Goals as goal
 
-pub enum_known-count : goal.enum_known-count
-enum_known-count c = search judging
-
-pub enum_told-1 : goal.enum_told-1
-enum_told-1 c = search judging
-
 pub returns-in-Value : goal.returns-in-Value
 returns-in-Value c = search judging
 
