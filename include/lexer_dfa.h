@@ -2,8 +2,7 @@
  * The proved lexer DFA table core for C: ASCII ranges and runs, the decoding and encoding
  * of tables, lookups, and the building of rows from lists of transitions.
  *
- * The functions stand in target/liblexer_dfa.a, which `./build` writes for the processor that it runs
- * on, x86-64 or Arm (aarch64).
+ * The functions stand in target/liblexer_dfa.a, which `./build` writes for x86-64.
  *
  * Every call takes all words, bytes and lengths and ends with its answer or with one numbered
  * refusal; there is nothing to check first. A list is passed as pointer and length. The pointer
