@@ -33,6 +33,7 @@ in_more z x (y ∷ ys) i =
     (three x y)
 
 pub asc_in : (f : ℕ) (cs : List ℕ) (x : ℕ) → Asc f cs → In x cs → f ≤ x
+asc_in f [] x a i = elim i [ ]
 asc_in f (c ∷ cs) x a (inl e) = omega arith
 asc_in f (c ∷ cs) x a (inr i) = omega (arith, asc_in (suc c) cs x a.1 i)
 
