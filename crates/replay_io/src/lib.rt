@@ -3,5 +3,6 @@
 #![tactic(auto)]
 
 pub mod check;
+pub mod input;
 pub mod read;
 pub mod tally;
