@@ -1,4 +1,3 @@
-use Prim.Native.Nat.{◌-◌}
 use Rattle.program_io.proofs.Shows.{texts}
 use Rattle.program_io.proofs.put_text.Goals as goal
 
