@@ -2,7 +2,7 @@
 // Ply 10 must not arrive as ply 1 and a stray 0, so the digits are skipped by a run: the state of the lexer that reads a number
 // loops on them, its row is classified, and each line is scanned by the run that this gives.
 //
-//     rt check plyscan && ./run plyscan < crates/plyscan/stdin
+//     ./run plyscan < crates/plyscan/stdin
 #![tactic(auto)]
 
 ghost use Rattle.std.specs.Prelude.{◌≤◌, length};

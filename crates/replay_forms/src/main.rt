@@ -1,6 +1,5 @@
-// Replays a sample of rows of four wide ranges, with where the Rust original leads on a symbol, through the search over range records; and runs the
-// calls that are walked by
-// hand on what the original has no answer for: a row that does not ascend, and the opening of lists of words.
+// Replays a sample of rows of four wide ranges, with where the Rust original leads on a symbol, through the search over range records; and runs that
+// search and the opening on what the original has no answer for: a row that does not ascend, and lists of words.
 // The sample comes from standard input, as the binary `record` of rust/compare writes it: at most 65,535 bytes, records of 46 bytes, numbers with the
 // least byte first:
 //
@@ -27,7 +26,7 @@ fn print(out: Stdout, first: usize, behind: &[u8], second: usize, end: &[u8]) ->
     out.write_all(end)
 }
 
-// The row is a local that is lent as a slice, which is walked by hand; what calls this is not.
+// The row is a local that is lent as a slice.
 fn target_in(row: [WideRange; 4], symbol: u32) -> u16
     ensures { result ≡ target_in row symbol }
 {

@@ -1,6 +1,5 @@
 -- Each contract determines the answer, the part that is handed back, and what is left in a buffer that is lent, since it is an equation for each. Assumes
 -- nothing.
-use denote.MutBor.{as_bor}
 use Rattle.std.proofs.Common.{sym, ◌∙◌}
 use Rattle.replay_io.proofs.read.byte.Reads as byte
 use Rattle.replay_io.proofs.read.after.Reads as after
@@ -44,10 +43,10 @@ small_unique κs a x y e f p q = p.1 ∙ sym q.1
 pub size_unique : Determines size.Learnt
 size_unique κs a x y e f p q = p.1 ∙ sym q.1
 
-pub put_halves_unique : DeterminesBoth (λ κs e. as_bor e.1.0) put-halves.Learnt
+pub put_halves_unique : DeterminesBoth (λ κs e. e.1.0) put-halves.Learnt
 put_halves_unique κs a x y e f p q = (p.1.next ∙ sym q.1.next, p.1.is ∙ sym q.1.is)
 
-pub put_words_unique : DeterminesBoth (λ κs e. as_bor e.1.0) put-words.Learnt
+pub put_words_unique : DeterminesBoth (λ κs e. e.1.0) put-words.Learnt
 put_words_unique κs a x y e f p q = (p.1.next ∙ sym q.1.next, p.1.is ∙ sym q.1.is)
 
 pub of_halves_unique : Determines of-halves.Learnt
@@ -62,7 +61,7 @@ of_masks_unique κs a x y e f p q = p ∙ sym q
 pub short_unique : Determines short.Learnt
 short_unique κs a x y e f p q = p ∙ sym q
 
-pub count_unique : DeterminesBoth (λ κs e. as_bor e.0) count.Learnt
+pub count_unique : DeterminesBoth (λ κs e. e.0) count.Learnt
 count_unique κs a x y e f p q = (p.1.0 ∙ sym q.1.0, p.1.1 ∙ sym q.1.1)
 
 pub told_unique : Determines told.Learnt

@@ -1,7 +1,7 @@
 // The program of document 01, "Ply-sheet examples": it reads a table's words from standard input, the least byte first, and prints
 // one line, `ok MODES STATES WORDS` or, as document 02 has it, `no NUMBER PLACE ITEM`.
 //
-//     rt check tableread && ./run tableread < crates/tableread/stdin
+//     ./run tableread < crates/tableread/stdin
 #![tactic(auto)]
 
 mod line;

@@ -1,7 +1,7 @@
 // Shows a table as a page that a person can read: it reads the words as `tableread` does, the least byte first, and prints the modes and, for
 // each state, what it accepts, its run, its rows and where the end of the input leads; or one line that says why the words are no table.
 //
-//     rt check tableshow && ./run tableshow < samples/ply-book.words
+//     ./run tableshow < samples/ply-book.words
 //
 // Proved: every part of the page (the head, a mode, a state, the line of a refusal) is the text that specs/Page says, for every room, cut off
 // where the page buffer ends. Not proved: that a state's text is never longer than the buffer, and the order in which `main` prints the parts.
