@@ -2,13 +2,14 @@
 // Ply 10 must not arrive as ply 1 and a stray 0, so the digits are skipped by a run: the state of the lexer that reads a number
 // loops on them, its row is classified, and each line is scanned by the run that this gives.
 //
-//     rt check plyscan && ./run plyscan < crates/plyscan/stdin
+//     ./run plyscan < crates/plyscan/stdin
 #![tactic(auto)]
 
 ghost use Rattle.std.specs.Prelude.{◌≤◌, length};
 
 use lexer_dfa::{Answered, AsciiRunScan, Refusal, Run, RunWords, Scanned};
-use libc::{STDIN_FILENO, STDOUT_FILENO};
+use replay_io::input::read_full;
+use std::io::{Result, Stdin, Stdout};
 
 // The state that reads a number.
 const NUMBER: u16 = 7;
@@ -25,60 +26,59 @@ fn number_row() -> [u16; 128] {
     row
 }
 
-fn print(text: &[u8]) {
-    io::write_all(STDOUT_FILENO, text);
+fn print(out: Stdout, text: &[u8]) -> Result<()> {
+    out.write_all(text)
 }
 
-fn print_number(n: u64) {
-    io::print_decimal(STDOUT_FILENO, n);
+fn print_number(out: Stdout, n: u64) -> Result<()> {
+    print!(out; "{n}")
 }
 
-fn print_words(words: RunWords) {
-    print(b"run ");
-    print_number(words.first as u64);
+fn print_words(out: Stdout, words: RunWords) -> Result<()> {
+    print(out, b"run ")?;
+    print_number(out, words.first as u64)?;
     if words.length == 3 {
-        print(b" ");
-        print_number(words.second as u64);
-        print(b" ");
-        print_number(words.third as u64);
+        print(out, b" ")?;
+        print_number(out, words.second as u64)?;
+        print(out, b" ")?;
+        print_number(out, words.third as u64)?;
     }
-    print(b"\n");
+    print(out, b"\n")
 }
 
-fn print_refusal(refusal: Refusal) {
-    print(b"refused ");
-    print_number(refusal.number as u64);
-    print(b" at ");
-    print_number(refusal.place as u64);
-    print(b"\n");
+fn print_refusal(out: Stdout, refusal: Refusal) -> Result<()> {
+    print(out, b"refused ")?;
+    print_number(out, refusal.number as u64)?;
+    print(out, b" at ")?;
+    print_number(out, refusal.place as u64)?;
+    print(out, b"\n")
 }
 
 // How far a run went, and how it ended.
-fn print_scan(scan: AsciiRunScan) {
-    print(b" (");
-    print_number(scan.bytes as u64);
+fn print_scan(out: Stdout, scan: AsciiRunScan) -> Result<()> {
+    print(out, b" (")?;
+    print_number(out, scan.bytes as u64)?;
     if scan.bytes == 1 {
-        print(b" byte, ");
+        print(out, b" byte, ")?;
     } else {
-        print(b" bytes, ");
+        print(out, b" bytes, ")?;
     }
     if scan.found_exit {
-        print(b"then an exit)\n");
+        print(out, b"then an exit)\n")
     } else {
-        print(b"to the end)\n");
+        print(out, b"to the end)\n")
     }
 }
 
-fn scan_line(run: Run, line: &[u8]) {
+fn scan_line(out: Stdout, run: Run, line: &[u8]) -> Result<()> {
     match lexer_dfa::scan_length(run, line) {
-        Scanned::NoRun => print(b"no run\n"),
+        Scanned::NoRun => print(out, b"no run\n"),
         Scanned::Skipped(scan) => {
             if scan.bytes == 0 {
-                print(b"no digits\n");
-                return;
+                return print(out, b"no digits\n");
             }
-            print(lexer_dfa::scan(run, line));
-            print_scan(scan);
+            print(out, lexer_dfa::scan(run, line))?;
+            print_scan(out, scan)
         }
     }
 }
@@ -98,41 +98,48 @@ fn line_length(text: &[u8]) -> usize
 }
 
 // Each line by itself, so that a run ends where its line does. The last line may lack its newline.
-fn scan_lines(run: Run, text: &[u8]) {
+fn scan_lines(out: Stdout, run: Run, text: &[u8]) -> Result<()> {
     let mut start = 0;
     while start < text.len() {
         let end = start + line_length(&text[start..]);
-        scan_line(run, &text[start..end]);
+        scan_line(out, run, &text[start..end])?;
         start = end + 1;
     }
+    Ok(())
 }
 
-fn scan_list(text: &[u8]) {
+fn scan_list(out: Stdout, text: &[u8]) -> Result<()> {
     let classified = lexer_dfa::classify(&number_row(), NUMBER);
     let answer = classified.answer;
     match answer {
         Answered::Ran(kind) => {
             let ranges = classified.ranges;
             let run = Run { kind, ranges };
-            print_words(lexer_dfa::write_serialized(run));
-            scan_lines(run, text);
+            print_words(out, lexer_dfa::write_serialized(run))?;
+            scan_lines(out, run, text)
         }
-        Answered::Refused(refusal) => print_refusal(refusal),
+        Answered::Refused(refusal) => print_refusal(out, refusal),
     }
 }
 
 // Whether the input goes on behind what was read.
-fn goes_on() -> bool {
+fn goes_on(from: &mut Stdin) -> Result<bool> {
     let mut one = [0u8; 1];
-    io::read_full(STDIN_FILENO, &mut one) == 1
+    Ok(read_full(from, &mut one)? == 1)
 }
 
-fn main() {
+fn main(rt: HostRuntime) -> Result<()> {
+    let out = rt.stdout();
+    let mut from = rt.stdin();
     let mut list = io::large_buffer();
-    let n = io::read_full(STDIN_FILENO, &mut list);
-    scan_list(&list[..n]);
+    let n = read_full(&mut from, &mut list)?;
+    scan_list(out, &list[..n])?;
     // A list that is cut may be cut inside a number, so this is said.
-    if goes_on() {
-        print(b"the list is too long, and was cut after 65536 bytes\n");
+    if goes_on(&mut from)? {
+        return print(
+            out,
+            b"the list is too long, and was cut after 65536 bytes\n",
+        );
     }
+    Ok(())
 }

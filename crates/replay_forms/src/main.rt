@@ -1,6 +1,5 @@
-// Replays a sample of rows of four wide ranges, with where the Rust original leads on a symbol, through the search over range records; and runs the
-// calls that are walked by
-// hand on what the original has no answer for: a row that does not ascend, and the opening of lists of words.
+// Replays a sample of rows of four wide ranges, with where the Rust original leads on a symbol, through the search over range records; and runs that
+// search and the opening on what the original has no answer for: a row that does not ascend, and lists of words.
 // The sample comes from standard input, as the binary `record` of rust/compare writes it: at most 65,535 bytes, records of 46 bytes, numbers with the
 // least byte first:
 //
@@ -12,22 +11,22 @@
 ghost use Rattle.std.specs.Prelude.{◌≡◌};
 ghost use Rattle.look_row.specs.Ranges.{target_in};
 
-use libc::{STDIN_FILENO, STDOUT_FILENO};
 use look_row::WideRange;
-use replay_io::read;
+use replay_io::{input, read};
+use std::io::{Result, Stdout};
 use word_serialized::Opening;
 
 const RECORD: usize = 46;
 
 // Two numbers, and what stands behind each. Each program has its own: no contract can say what is written, and no public function goes without one.
-fn print(first: usize, behind: &[u8], second: usize, end: &[u8]) {
-    io::print_decimal(STDOUT_FILENO, first as u64);
-    io::write_all(STDOUT_FILENO, behind);
-    io::print_decimal(STDOUT_FILENO, second as u64);
-    io::write_all(STDOUT_FILENO, end);
+fn print(out: Stdout, first: usize, behind: &[u8], second: usize, end: &[u8]) -> Result<()> {
+    print!(out; "{first}")?;
+    out.write_all(behind)?;
+    print!(out; "{second}")?;
+    out.write_all(end)
 }
 
-// The row is a local that is lent as a slice, which is walked by hand; what calls this is not.
+// The row is a local that is lent as a slice.
 fn target_in(row: [WideRange; 4], symbol: u32) -> u16
     ensures { result ≡ target_in row symbol }
 {
@@ -74,24 +73,25 @@ fn replay(sample: &[u8]) -> usize {
     differ
 }
 
-fn report(sample: &[u8]) {
+fn report(out: Stdout, sample: &[u8]) -> Result<()> {
     let n = sample.len();
-    print(n % RECORD, b" left over of ", n, b" bytes\n");
+    print(out, n % RECORD, b" left over of ", n, b" bytes\n")?;
     print(
+        out,
         n / RECORD,
         b" answers, ",
         replay(sample),
         b" differ: wide_target\n",
-    );
+    )
 }
 
-fn print_target(row: [WideRange; 4], symbol: u32) {
+fn print_target(out: Stdout, row: [WideRange; 4], symbol: u32) -> Result<()> {
     let target = target_in(row, symbol);
-    print(symbol as usize, b" leads to ", target as usize, b"\n");
+    print(out, symbol as usize, b" leads to ", target as usize, b"\n")
 }
 
 // The first range whose high reaches 250 starts past it, though a later one holds it.
-fn print_falling() {
+fn print_falling(out: Stdout) -> Result<()> {
     let row = [
         WideRange {
             low: 900,
@@ -114,35 +114,37 @@ fn print_falling() {
             target: 4,
         },
     ];
-    print_target(row, 250);
-    print_target(row, 950);
-    print_target(row, 1000);
-    print_target(row, 1001);
+    print_target(out, row, 250)?;
+    print_target(out, row, 950)?;
+    print_target(out, row, 1000)?;
+    print_target(out, row, 1001)
 }
 
 // The refusal, 0 for none, and then the modes or the place.
-fn print_opening(words: &[u32]) {
+fn print_opening(out: Stdout, words: &[u32]) -> Result<()> {
     match word_serialized::read_opening(words) {
-        Opening::Modes(n) => print(0, b" refuses: modes ", n as usize, b"\n"),
-        Opening::Refused(r) => print(r.number as usize, b" refuses: at ", r.place, b"\n"),
+        Opening::Modes(n) => print(out, 0, b" refuses: modes ", n as usize, b"\n"),
+        Opening::Refused(r) => print(out, r.number as usize, b" refuses: at ", r.place, b"\n"),
     }
 }
 
-fn print_openings() {
+fn print_openings(out: Stdout) -> Result<()> {
     let words = [0x4C440001u32, 7, 0];
-    print_opening(&words);
-    print_opening(&words[..1]);
-    print_opening(&words[..0]);
-    print_opening(&words[1..]);
+    print_opening(out, &words)?;
+    print_opening(out, &words[..1])?;
+    print_opening(out, &words[..0])?;
+    print_opening(out, &words[1..])
 }
 
 // Of an input that fills the buffer there may be more: it is no sample, and nothing is printed.
-fn main() {
+fn main(rt: HostRuntime) -> Result<()> {
+    let out = rt.stdout();
     let mut sample = io::large_buffer();
-    let n = io::read_full(STDIN_FILENO, &mut sample);
+    let n = input::read_full(&mut rt.stdin(), &mut sample)?;
     if n < 65536 {
-        report(&sample[..n]);
-        print_falling();
-        print_openings();
+        report(out, &sample[..n])?;
+        print_falling(out)?;
+        return print_openings(out);
     }
+    Ok(())
 }

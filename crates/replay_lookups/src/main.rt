@@ -24,11 +24,11 @@
 mod lists;
 mod lookups;
 
-use libc::{STDIN_FILENO, STDOUT_FILENO};
 use refusal::ROOM_NUMBERS;
 use replay_io::tally::Replayed;
-use replay_io::{read, tally};
+use replay_io::{input, read, tally};
 use room_decode::Decoded;
+use std::io::{Result, Stdout};
 
 // The record at the front of what is left. One of no kind is longer than any sample.
 fn replay_record(room: &[u32], rest: &[u8]) -> Replayed {
@@ -67,51 +67,52 @@ fn replay_table(sample: &[u8], counts: &mut [usize]) -> usize {
 }
 
 // Two numbers, and what stands behind each. Each program has its own: no contract can say what is written, and no public function goes without one.
-fn print(first: usize, behind: &[u8], second: usize, end: &[u8]) {
-    io::print_decimal(STDOUT_FILENO, first as u64);
-    io::write_all(STDOUT_FILENO, behind);
-    io::print_decimal(STDOUT_FILENO, second as u64);
-    io::write_all(STDOUT_FILENO, end);
+fn print(out: Stdout, first: usize, behind: &[u8], second: usize, end: &[u8]) -> Result<()> {
+    print!(out; "{first}")?;
+    out.write_all(behind)?;
+    print!(out; "{second}")?;
+    out.write_all(end)
 }
 
 // The line of a kind, whose name ends the line.
-fn print_kind(counts: &[usize], kind: u8, name: &[u8]) {
+fn print_kind(out: Stdout, counts: &[usize], kind: u8, name: &[u8]) -> Result<()> {
     let equal = tally::told(counts, kind, true);
     let differ = tally::told(counts, kind, false);
-    print(equal, b" equal, ", differ, b" differ: ");
-    io::write_all(STDOUT_FILENO, name);
+    print(out, equal, b" equal, ", differ, b" differ: ")?;
+    out.write_all(name)
 }
 
 // The name of each kind ends its line.
-fn print_kinds(counts: &[usize]) {
-    print_kind(counts, 1, b"         mode_start\n");
-    print_kind(counts, 2, b"        state_count\n");
-    print_kind(counts, 3, b"             accept\n");
-    print_kind(counts, 4, b"       ascii_target\n");
-    print_kind(counts, 5, b"        char_target\n");
-    print_kind(counts, 6, b"         eof_target\n");
-    print_kind(counts, 7, b"  char_continuation\n");
-    print_kind(counts, 8, b"   eof_continuation\n");
-    print_kind(counts, 9, b"           coverage\n");
-    print_kind(counts, 10, b"     scan_ascii_run\n");
-    print_kind(counts, 11, b"compiled_mode_flags\n");
-    print_kind(counts, 12, b"  mode_state_counts\n");
-    print_kind(counts, 13, b"             encode\n");
+fn print_kinds(out: Stdout, counts: &[usize]) -> Result<()> {
+    print_kind(out, counts, 1, b"         mode_start\n")?;
+    print_kind(out, counts, 2, b"        state_count\n")?;
+    print_kind(out, counts, 3, b"             accept\n")?;
+    print_kind(out, counts, 4, b"       ascii_target\n")?;
+    print_kind(out, counts, 5, b"        char_target\n")?;
+    print_kind(out, counts, 6, b"         eof_target\n")?;
+    print_kind(out, counts, 7, b"  char_continuation\n")?;
+    print_kind(out, counts, 8, b"   eof_continuation\n")?;
+    print_kind(out, counts, 9, b"           coverage\n")?;
+    print_kind(out, counts, 10, b"     scan_ascii_run\n")?;
+    print_kind(out, counts, 11, b"compiled_mode_flags\n")?;
+    print_kind(out, counts, 12, b"  mode_state_counts\n")?;
+    print_kind(out, counts, 13, b"             encode\n")
 }
 
 // Two counts for each kind, from 0 on.
-fn report(sample: &[u8]) {
+fn report(out: Stdout, sample: &[u8]) -> Result<()> {
     let mut counts = [0usize; 28];
     let at = replay_table(sample, &mut counts);
-    print(at, b" of ", sample.len(), b" bytes\n");
-    print_kinds(&counts);
+    print(out, at, b" of ", sample.len(), b" bytes\n")?;
+    print_kinds(out, &counts)
 }
 
 // Of an input that fills the buffer there may be more: it is no sample, and nothing is printed.
-fn main() {
+fn main(rt: HostRuntime) -> Result<()> {
     let mut sample = io::large_buffer();
-    let n = io::read_full(STDIN_FILENO, &mut sample);
+    let n = input::read_full(&mut rt.stdin(), &mut sample)?;
     if n < 65536 {
-        report(&sample[..n]);
+        return report(rt.stdout(), &sample[..n]);
     }
+    Ok(())
 }

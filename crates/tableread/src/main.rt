@@ -1,7 +1,7 @@
 // The program of document 01, "Ply-sheet examples": it reads a table's words from standard input, the least byte first, and prints
 // one line, `ok MODES STATES WORDS` or, as document 02 has it, `no NUMBER PLACE ITEM`.
 //
-//     rt check tableread && ./run tableread < crates/tableread/stdin
+//     ./run tableread < crates/tableread/stdin
 #![tactic(auto)]
 
 mod line;
@@ -12,9 +12,10 @@ ghost use Rattle.room_decode.specs.Decode.{said};
 ghost use Rattle.program_io.specs.Bytes.{read_of};
 ghost use Rattle.tableread.specs.Line.{line_of};
 
-use libc::{STDIN_FILENO, STDOUT_FILENO};
 use line::LONGEST;
 use refusal::ROOM_NUMBERS;
+use replay_io::input::read_full;
+use std::io::Result;
 
 // Puts the line that answers an input at the front of `line`, and answers how many bytes it has.
 fn answer(input: &[u8], line: &mut [u8; LONGEST]) -> usize
@@ -26,10 +27,10 @@ fn answer(input: &[u8], line: &mut [u8; LONGEST]) -> usize
 }
 
 // The buffer takes 65,536 bytes, which are more than 8,192 words: an input that fills it is LIMIT, whatever stands behind.
-fn main() {
+fn main(rt: HostRuntime) -> Result<()> {
     let mut input = io::large_buffer();
-    let n = io::read_full(STDIN_FILENO, &mut input);
+    let n = read_full(&mut rt.stdin(), &mut input)?;
     let mut line = [0u8; LONGEST];
     let k = answer(&input[..n], &mut line);
-    io::write_all(STDOUT_FILENO, &line[..k]);
+    rt.stdout().write_all(&line[..k])
 }

@@ -1,7 +1,7 @@
 // Shows a table as a page that a person can read: it reads the words as `tableread` does, the least byte first, and prints the modes and, for
 // each state, what it accepts, its run, its rows and where the end of the input leads; or one line that says why the words are no table.
 //
-//     rt check tableshow && ./run tableshow < samples/ply-book.words
+//     ./run tableshow < samples/ply-book.words
 //
 // Proved: every part of the page (the head, a mode, a state, the line of a refusal) is the text that specs/Page says, for every room, cut off
 // where the page buffer ends. Not proved: that a state's text is never longer than the buffer, and the order in which `main` prints the parts.
@@ -16,9 +16,10 @@ ghost use Rattle.std.specs.Prelude.{◌≡◌, min, length, take};
 ghost use Rattle.io.specs.Counts.{IsPrefixLen};
 ghost use Rattle.tableshow.specs.Page.{state_text, mode_text, table_text, refusal_text};
 
-use libc::{STDIN_FILENO, STDOUT_FILENO};
 use refusal::ROOM_NUMBERS;
+use replay_io::input::read_full;
 use room_decode::Decoded;
+use std::io::{Result, Stdout};
 
 // At most 2,730 ranges stand in the rows of a state, of at most 55 bytes each with the break of their line.
 const PAGE: usize = 163840;
@@ -51,30 +52,32 @@ fn refusal_page(number: u32, place: usize, page: &mut [u8]) -> usize
     page::put_refusal(number, place, page, 0)
 }
 
-fn show_mode(room: &[u32], mode: u32, page: &mut [u8]) {
+fn show_mode(out: Stdout, room: &[u32], mode: u32, page: &mut [u8]) -> Result<()> {
     let n = mode_page(room, mode, page);
-    io::write_all(STDOUT_FILENO, &page[..n]);
+    out.write_all(&page[..n])
 }
 
-fn show_modes(room: &[u32], modes: u32, page: &mut [u8]) {
+fn show_modes(out: Stdout, room: &[u32], modes: u32, page: &mut [u8]) -> Result<()> {
     let mut mode = 0;
     while mode < modes {
-        show_mode(room, mode, page);
+        show_mode(out, room, mode, page)?;
         mode += 1;
     }
+    Ok(())
 }
 
-fn show_state(room: &[u32], state: u16, page: &mut [u8]) {
+fn show_state(out: Stdout, room: &[u32], state: u16, page: &mut [u8]) -> Result<()> {
     let n = state_page(room, state, page);
-    io::write_all(STDOUT_FILENO, &page[..n]);
+    out.write_all(&page[..n])
 }
 
-fn show_states(room: &[u32], states: u16, page: &mut [u8]) {
+fn show_states(out: Stdout, room: &[u32], states: u16, page: &mut [u8]) -> Result<()> {
     let mut state = 0;
     while state < states {
-        show_state(room, state, page);
+        show_state(out, room, state, page)?;
         state += 1;
     }
+    Ok(())
 }
 
 // A table has fewer states than 65,536.
@@ -87,39 +90,46 @@ fn all_of(states: u32) -> u16
     65535
 }
 
-fn show_head(modes: u32, states: u32, words: usize, page: &mut [u8]) {
+fn show_head(out: Stdout, modes: u32, states: u32, words: usize, page: &mut [u8]) -> Result<()> {
     let n = table_page(modes, states, words, page);
-    io::write_all(STDOUT_FILENO, &page[..n]);
+    out.write_all(&page[..n])
 }
 
-fn show_table(room: &[u32], modes: u32, states: u32, words: usize, page: &mut [u8]) {
-    show_head(modes, states, words, page);
-    show_modes(room, modes, page);
-    show_states(room, all_of(states), page);
+fn show_table(
+    out: Stdout,
+    room: &[u32],
+    modes: u32,
+    states: u32,
+    words: usize,
+    page: &mut [u8],
+) -> Result<()> {
+    show_head(out, modes, states, words, page)?;
+    show_modes(out, room, modes, page)?;
+    show_states(out, room, all_of(states), page)
 }
 
-fn show_refusal(number: u32, place: usize, page: &mut [u8]) {
+fn show_refusal(out: Stdout, number: u32, place: usize, page: &mut [u8]) -> Result<()> {
     let n = refusal_page(number, place, page);
-    io::write_all(STDOUT_FILENO, &page[..n]);
+    out.write_all(&page[..n])
 }
 
 // What decoding answered, part by part on one page.
-fn show(room: &[u32], decoded: Decoded) {
+fn show(out: Stdout, room: &[u32], decoded: Decoded) -> Result<()> {
     let mut page = [0u8; PAGE];
     match decoded {
         Decoded::Table {
             modes,
             states,
             words,
-        } => show_table(room, modes, states, words, &mut page),
-        Decoded::Refused(refusal) => show_refusal(refusal.number, refusal.place, &mut page),
+        } => show_table(out, room, modes, states, words, &mut page),
+        Decoded::Refused(refusal) => show_refusal(out, refusal.number, refusal.place, &mut page),
     }
 }
 
-fn main() {
+fn main(rt: HostRuntime) -> Result<()> {
     let mut input = io::large_buffer();
-    let n = io::read_full(STDIN_FILENO, &mut input);
+    let n = read_full(&mut rt.stdin(), &mut input)?;
     let mut room = [0u32; ROOM_NUMBERS];
     let decoded = program_io::read_table(&input[..n], &mut room);
-    show(&room, decoded);
+    show(rt.stdout(), &room, decoded)
 }

@@ -1,4 +1,3 @@
-use Rattle.std.proofs.Common.{◌-◌}
 use Rattle.replay_io.proofs.Checking.{checking}
 use Rattle.replay_io.proofs.check.of_masks.Goals as goal
 

@@ -1,4 +1,3 @@
-use Rattle.std.proofs.Common.{◌-◌}
 use Rattle.replay_io.proofs.Putting.{putting}
 use Rattle.replay_io.proofs.read.put_halves.Goals as goal
 

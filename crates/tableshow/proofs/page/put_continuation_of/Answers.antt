@@ -1,0 +1,24 @@
+-- What was shown is the text of the numbers that calls answered.
+use Rattle.tableshow.proofs.Parts.{parts}
+use Rattle.tableshow.proofs.page.put_continuation_of.Goals as goal
+
+pub eof_continuation-requires : goal.eof_continuation-requires
+eof_continuation-requires c = search parts
+
+pub number_or-to-requires : goal.number_or-to-requires
+number_or-to-requires c = search parts
+
+pub continuation_form-requires : goal.continuation_form-requires
+continuation_form-requires c = search parts
+
+pub overflow_cast-to : goal.overflow_cast-to
+overflow_cast-to c = search parts
+
+pub put_form-requires : goal.put_form-requires
+put_form-requires c = search parts
+
+pub shape_of-page : goal.shape_of-page
+shape_of-page c = search parts
+
+pub returns : goal.returns
+returns c = search parts

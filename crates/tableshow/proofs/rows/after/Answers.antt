@@ -1,0 +1,12 @@
+-- By the tests that the code makes.
+use Rattle.tableshow.proofs.Parts.{items}
+use Rattle.tableshow.proofs.rows.after.Goals as goal
+
+pub overflow_add-result : goal.overflow_add-result
+overflow_add-result c = search items
+
+pub returns-then-items-lt3 : goal.returns-then-items-lt3
+returns-then-items-lt3 c = search items
+
+pub returns : goal.returns
+returns c = search items

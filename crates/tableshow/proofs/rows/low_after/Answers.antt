@@ -1,0 +1,9 @@
+-- By the tests that the code makes.
+use Rattle.tableshow.proofs.Parts.{items}
+use Rattle.tableshow.proofs.rows.low_after.Goals as goal
+
+pub returns-then-to-next : goal.returns-then-to-next
+returns-then-to-next c = search items
+
+pub returns : goal.returns
+returns c = search items

@@ -1,0 +1,9 @@
+-- By the law of every loop that shows: the symbols that are left, shown from here, give what all of them give.
+use Rattle.tableshow.proofs.Parts.{Edging}
+use Rattle.tableshow.proofs.rows.put_edges.Given as goal
+
+abbrev pub invariant-loop-left : goal.invariant-loop-left
+invariant-loop-left l = Edging l.room l.state l.count l.n l.initial.page l.left l.symbol l.low l.items l.to l.m l.page
+
+abbrev pub decreases-loop-left : goal.decreases-loop-left
+decreases-loop-left l = l.left
