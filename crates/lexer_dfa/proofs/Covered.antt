@@ -7,7 +7,7 @@ use mathlib.Core.List.{List, [], ◌∷◌}
 use lib.Dec.{ltb}
 use lib.ListN.{length}
 use borrow.Author.Tests.{ltb-true, ltb-false}
-use denote.Ref.{Bor}
+use Rattle.std.specs.Borrow.{Bor, MutBor}
 use Rattle.refusal.specs.Said.{ok, no, STATE, NOT-TABLE}
 use Rattle.refusal.proofs.Apart.{one_number, one_place}
 use Rattle.refusal.specs.Lists.{pick}
@@ -30,7 +30,7 @@ use Rattle.lexer_dfa.proofs.Decoding.{decode_accepts, decode_refuses, table_room
 use Rattle.lexer_dfa.proofs.RoundTrip.{said-accepted, leaves_table, table_leaves, none_left}
 
 -- where decode accepts, coverage counts the points at which the table's state goes on
-pub decoded_coverage : (words room : Bor (List ℕ)) → Fit words.now → 16384 ≤ length room.now → (x : Decoded) (left : List ℕ) →
+pub decoded_coverage : (words : Bor (List ℕ)) (room : MutBor (List ℕ)) → Fit words.now → 16384 ≤ length room.now → (x : Decoded) (left : List ℕ) →
     DecodeAnswers words room x left →
     (modes states count : ℕ) → said x ≡ ok (modes ∷ states ∷ count ∷ []) →
     (a : Accepted words.now modes states count) × ((s : ℕ) → coverage_of left s ≡ coverage_on a.table s)

@@ -9,7 +9,7 @@ use mathlib.Core.Logic.{◌⊎◌, inl, inr}
 use lib.Dec.{ltb, eqb}
 use lib.ListN.{length, get_or}
 use borrow.Author.Tests.{ltb-true, ltb-false, lt-ltb, le-ltb, ne_eqb}
-use denote.Ref.{Bor}
+use Rattle.std.specs.Borrow.{Bor, MutBor}
 use Rattle.refusal.specs.declared.Refusal.{Refusal}
 use Rattle.refusal.specs.Said.{Said, broken_by, refusal_at, ok, no_by, no, SHORT, TAG, FIELD, LIMIT, LEFT, INDEX, ROOM}
 use Rattle.refusal.specs.Lists.{pick}
@@ -111,7 +111,7 @@ table_why t h n r = go (broken_of t) refl
     go zero e =
         let o = (unbroken_is t h r.1).0 e in
         subst (Why (words_of t) n) (sym (obeys t h n r o))
-        (record { table = t; limit = r.1; layout = refl; fields = h; rules = o; of_modes_lem = refl; of_states = refl; of_words = refl })
+        (record { table = t; limit = r.1; layout = refl; fields = h; rules = o; of_modes = refl; of_states = refl; of_words = refl })
     go (suc k) e =
         let b = broken_first t h r.1 (suc k) (omega arith) e in
         subst (Why (words_of t) n) (sym (breaks t h n r (suc k) (broken_item_of t) (omega arith) b)) (broken_rule refl r (t, h, b, refl))
@@ -216,7 +216,7 @@ module _ (w : List ℕ) (n : ℕ) (enough : 16384 ≤ n) {modes states count : �
       let t = a.table in
       let e = subst (λ v. said (decode_of v n) ≡ ok (length t.modes ∷ length t.states ∷ length v ∷ [])) (sym a.layout)
       (obeys t a.fields n reads a.rules) in
-      e ∙ (rw (a.of_modes_lem, a.of_states, a.of_words))
+      e ∙ (rw (a.of_modes, a.of_states, a.of_words))
 
   -- and the room is the table's
   keeps_accepted : room_of w n ≡ room_for w n (Found (sections_of a.table))
@@ -238,7 +238,7 @@ keeps_zeros w n {q} (Found s) e = go (broken w s) e
 -- says, is a premise, `Fit`.
 
 -- Demand 2: "Given its room, decoding accepts the lists of up to 8,192 words that meet the layout and the nine index rules, and no others."
-pub decode_accepts : (words room : Bor (List ℕ)) → Fit words.now → 16384 ≤ length room.now →
+pub decode_accepts : (words : Bor (List ℕ)) (room : MutBor (List ℕ)) → Fit words.now → 16384 ≤ length room.now →
     (x : Decoded) (left : List ℕ) → DecodeAnswers words room x left →
     (modes states count : ℕ) → Exactly (said x ≡ ok (modes ∷ states ∷ count ∷ [])) (Accepted words.now modes states count)
 decode_accepts words room f enough x left a modes states count =
@@ -248,7 +248,7 @@ decode_accepts words room f enough x left a modes states count =
     (λ h. subst (Why w n) (sym e ∙ h) (why w n f), λ h. e ∙ says_accepted w n enough h)
 
 -- Demand 1: "one numbered refusal, given on the stated condition and never otherwise."
-pub decode_refuses : (words room : Bor (List ℕ)) → Fit words.now → (x : Decoded) (left : List ℕ) → DecodeAnswers words room x left →
+pub decode_refuses : (words : Bor (List ℕ)) (room : MutBor (List ℕ)) → Fit words.now → (x : Decoded) (left : List ℕ) → DecodeAnswers words room x left →
     RefusedBy words.now (length room.now) (said x)
 decode_refuses words room f x left a =
     let w = words.now in
@@ -256,7 +256,7 @@ decode_refuses words room f x left a =
     subst (λ y. RefusedBy w n (said y)) (sym a.2.0) (says_refused w n f)
 
 -- "Refused: all outputs zero."
-pub refused-zero : (words room : Bor (List ℕ)) (x : Decoded) (left : List ℕ) → DecodeAnswers words room x left →
+pub refused-zero : (words : Bor (List ℕ)) (room : MutBor (List ℕ)) (x : Decoded) (left : List ℕ) → DecodeAnswers words room x left →
     (r : Refusal) → said x ≡ no_by r → left ≡ zeros (length room.now)
 refused-zero words room x left a r e =
     let w = words.now in
@@ -264,12 +264,12 @@ refused-zero words room x left a r e =
     sym a.3 ∙ a.2.1 ∙ keeps_zeros w n (laid_out w n) (ap said (sym a.2.0) ∙ e)
 
 -- accepted: the room holds the numbers of the table, by the places of its sections, and zeros behind them
-pub accepted-room : (words room : Bor (List ℕ)) → 16384 ≤ length room.now → (x : Decoded) (left : List ℕ) → DecodeAnswers words room x left →
+pub accepted-room : (words : Bor (List ℕ)) (room : MutBor (List ℕ)) → 16384 ≤ length room.now → (x : Decoded) (left : List ℕ) → DecodeAnswers words room x left →
     (modes states count : ℕ) (t : Accepted words.now modes states count) → left ≡ room_for words.now (length room.now) (Found (sections_of t.table))
 accepted-room words room enough x left a modes states count t = sym a.3 ∙ a.2.1 ∙ keeps_accepted words.now (length room.now) enough t
 
 -- the same over the table's own words
-pub table_room : (words room : Bor (List ℕ)) → 16384 ≤ length room.now → (x : Decoded) (left : List ℕ) → DecodeAnswers words room x left →
+pub table_room : (words : Bor (List ℕ)) (room : MutBor (List ℕ)) → 16384 ≤ length room.now → (x : Decoded) (left : List ℕ) → DecodeAnswers words room x left →
     (modes states count : ℕ) (t : Accepted words.now modes states count) →
     room_for (words_of t.table) (length room.now) (Found (sections_of t.table)) ≡ left
 table_room words room enough x left a modes states count t =

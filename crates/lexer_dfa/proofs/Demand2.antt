@@ -7,7 +7,7 @@ use mathlib.Core.Bool.{Bool, true, false, false≢true}
 use mathlib.Core.List.{List}
 use lib.Dec.{leb, ltb}
 use lib.ListN.{length, get_or}
-use denote.Ref.{Bor}
+use Rattle.std.specs.Borrow.{Bor}
 use borrow.Author.Tests.{eqb-true, leb-true, leb-false, not-false}
 use Rattle.refusal.specs.Lists.{before}
 use Rattle.refusal.proofs.Lists.{before_≤, not_eqb}

@@ -9,7 +9,7 @@ use mathlib.Core.List.{List, [], ◌∷◌, ◌++◌}
 use lib.Dec.{ltb}
 use lib.ListN.{length, get_or, take}
 use lib.Seq.{get_or-take}
-use denote.Ref.{Bor}
+use Rattle.std.specs.Borrow.{Bor, MutBor}
 use borrow.Author.Tests.{lt-ltb, le-ltb, eq-eqb}
 use Rattle.refusal.specs.Said.{ok}
 use Rattle.refusal.specs.Fixed.{NONE, DEAD-STATE}
@@ -298,7 +298,7 @@ matrix_kept w x n k s m good h =
     }
 
 -- THEOREM: "Mask bit i is set where transition i holds the segment", and so at every point
-pub masks_kept : (list segments masks : Bor (List ℕ)) → MasksAsked list segments masks → (x : Masks) (s m : List ℕ) → MatrixAnswers list segments masks x s m →
+pub masks_kept : (list : Bor (List ℕ)) (segments masks : MutBor (List ℕ)) → MasksAsked list segments masks → (x : Masks) (s m : List ℕ) → MatrixAnswers list segments masks x s m →
     MasksKept list.now x s m
 masks_kept list segments masks q x s m b =
     let w = list.now in
@@ -315,9 +315,9 @@ complement_length (t ∷ ts) [] c = absurd c
 complement_length (t ∷ ts) (u ∷ us) c = ap suc (complement_length ts us c.1)
 
 -- THEOREM: "If two accepted lists are complements place by place, each transition's bit is flipped at every point."
-pub masks_flipped : (list segments masks : Bor (List ℕ)) → MasksAsked list segments masks → (x : Masks) (s m : List ℕ) →
+pub masks_flipped : (list : Bor (List ℕ)) (segments masks : MutBor (List ℕ)) → MasksAsked list segments masks → (x : Masks) (s m : List ℕ) →
     MatrixAnswers list segments masks x s m →
-    (list' segments' masks' : Bor (List ℕ)) → MasksAsked list' segments' masks' → (y : Masks) (s' m' : List ℕ) → MatrixAnswers list' segments' masks' y s' m' →
+    (list' : Bor (List ℕ)) (segments' masks' : MutBor (List ℕ)) → MasksAsked list' segments' masks' → (y : Masks) (s' m' : List ℕ) → MatrixAnswers list' segments' masks' y s' m' →
     Complement (list_of list.now) (list_of list'.now) → Flipped list.now x s m list'.now y s' m'
 masks_flipped list segments masks q x s m b list' segments' masks' q' y s' m' b' c =
     let v = list.now in
@@ -365,7 +365,7 @@ one_list : {ts us : List Transition} → parsed ts ≡ parsed us → ts ≡ us
 one_list e = cc
 
 -- THEOREM: the masks that `distinct_masks` tells of a list are those by which `build_rows` was given targets and continuations for it
-pub masks_agree : (list segments masks out : Bor (List ℕ)) (n k : ℕ) (d : List ℕ) → DistinctAnswers list segments masks out (Count n k) d →
+pub masks_agree : (list : Bor (List ℕ)) (segments masks out : MutBor (List ℕ)) (n k : ℕ) (d : List ℕ) → DistinctAnswers list segments masks out (Count n k) d →
     (a : RowArgs) (w e : ℕ) (l : RowsLeft) → BuildAnswers a (Built w e) l → a.list.now ≡ list.now → MasksAgree n k d a.targets.now a.conts.now l
 masks_agree list segments masks out n k d b a w e l y same =
     let bytes = list.now in

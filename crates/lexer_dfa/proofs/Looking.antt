@@ -4,7 +4,7 @@ use mathlib.Core.Path.{◌≡◌, refl, ap, subst, ◌∙◌}
 use mathlib.Core.List.{List, [], ◌∷◌}
 use lib.Dec.{ltb}
 use lib.ListN.{length}
-use denote.Ref.{Bor}
+use Rattle.std.specs.Borrow.{Bor, MutBor}
 use borrow.Author.Tests.{lt-ltb}
 use Rattle.refusal.specs.Said.{ok, no, STATE}
 use Rattle.refusal.specs.Lists.{pick}
@@ -30,7 +30,7 @@ use Rattle.lexer_dfa.proofs.Demand2.{run_is_longest}
 use Rattle.lexer_dfa.proofs.Decoding.{decode_accepts, table_room}
 
 -- where decode accepts, lookups on the room give what the table says, and NOT-TABLE is "never met"
-pub decoded_looks : (words room : Bor (List ℕ)) → Fit words.now → 16384 ≤ length room.now → (x : Decoded) (left : List ℕ) →
+pub decoded_looks : (words : Bor (List ℕ)) (room : MutBor (List ℕ)) → Fit words.now → 16384 ≤ length room.now → (x : Decoded) (left : List ℕ) →
     DecodeAnswers words room x left →
     (modes states count : ℕ) → said x ≡ ok (modes ∷ states ∷ count ∷ []) → (a : Accepted words.now modes states count) × Looks a.table left × Never left
 decoded_looks words room f enough x left d modes states count e =
@@ -47,7 +47,7 @@ none_said bs = refl
 
 -- "Over ASCII-only bytes, a state's run, where it has one, is the longest front part on which it loops": the scans by the run of a state, in any room that has
 -- the numbers that decode left
-pub state_scan_is_longest : (words room : Bor (List ℕ)) → Fit words.now → 16384 ≤ length room.now → (x : Decoded) (left : List ℕ) →
+pub state_scan_is_longest : (words : Bor (List ℕ)) (room : MutBor (List ℕ)) → Fit words.now → 16384 ≤ length room.now → (x : Decoded) (left : List ℕ) →
     DecodeAnswers words room x left →
     (modes states count : ℕ) → said x ≡ ok (modes ∷ states ∷ count ∷ []) →
     (lent : Bor (List ℕ)) → lent.now ≡ left → (s : ℕ) → s < states → (input : Bor (List ℕ)) → AsciiOnly input.now →

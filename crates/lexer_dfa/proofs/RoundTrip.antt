@@ -10,7 +10,7 @@ use lib.ListN.{length, get_or, take, drop, length-take, length-drop}
 use lib.Seq.{get_or-take, get_or-drop}
 use borrow.Author.Tests.{ltb-true, ltb-false, lt-ltb, le-ltb}
 use contract.Lifetimes.{Lfts}
-use denote.Ref.{Bor}
+use Rattle.std.specs.Borrow.{Bor, MutBor}
 use Rattle.refusal.specs.declared.Refusal.{Refusal}
 use Rattle.refusal.specs.Said.{Said, refusal_at, ok, no_by, no, NOT-TABLE, ROOM}
 use Rattle.buffer.specs.declared.Written.{Written}
@@ -47,7 +47,7 @@ trip_size : {w : List ℕ} {n : ℕ} (t : Trip w n) → length (words_of (normal
 trip_size t = normal_size t.table ∙ ap length (sym t.words)
 
 -- "Encoding the result gives the same words with nonzero flags made 1; decoding that gives the same table."
-pub there_and_back : (words room : Bor (List ℕ)) → Fit words.now → (x : Decoded) (d : List ℕ) → DecodeAnswers words room x d →
+pub there_and_back : (words : Bor (List ℕ)) (room : MutBor (List ℕ)) → Fit words.now → (x : Decoded) (d : List ℕ) → DecodeAnswers words room x d →
     (modes states count : ℕ) → decoding.said x ≡ ok (modes ∷ states ∷ count ∷ []) → RoundTrip words.now (length room.now) x d
 there_and_back words room f x d a modes states count h =
     let w = words.now in
@@ -103,15 +103,15 @@ table_leaves κs room f h =
     let d = room.now in
     let o = own_words d h in
     let c = accepted-said (decode_of (words_part d) (length d)) o.0 in
-    let lent : Bor (List ℕ) = record { ref_ptr = room.ref_ptr; ghost_name = room.name; now = words_part d } in
+    let lent : Bor (List ℕ) = record { ref_ptr = room.ref_ptr; now = words_part d } in
     record {
       fit = part_fits d f;
       words = lent;
       are_words = refl;
-      room = room;
+      room = record { ref_ptr = room.ref_ptr; ghost_name = 0; now = d };
       as_long = refl;
       answer = decode_of (words_part d) (length d);
-      leaves = (κs, (lent, (room, tt)), (refl, o.1), refl);
+      leaves = (κs, (lent, (record { ref_ptr = room.ref_ptr; ghost_name = 0; now = d }, tt)), (refl, o.1), refl);
       modes = c.0;
       states = c.1;
       count = c.2;
@@ -182,7 +182,7 @@ module _ (d : List ℕ) (n : ℕ) where
 
 -- "Encoding and coverage give NOT-TABLE exactly when the room isn't what decoding leaves for some accepted words; encoding gives ROOM next, when the output is
 -- shorter than needed": and else it accepts, so that every room that it accepts comes from decoding
-pub encode_answers : (room out : Bor (List ℕ)) → Fit room.now → (x : Written) (left : List ℕ) → EncodeAnswers room out x left →
+pub encode_answers : (room : Bor (List ℕ)) (out : MutBor (List ℕ)) → Fit room.now → (x : Written) (left : List ℕ) → EncodeAnswers room out x left →
     EncodedBy room.now (length out.now) (said x)
 encode_answers room out f x left a =
     let d = room.now in
@@ -206,7 +206,7 @@ encode_answers room out f x left a =
     })
 
 -- "Refused: all outputs zero."
-pub encode_refused_zero : (room out : Bor (List ℕ)) (x : Written) (left : List ℕ) → EncodeAnswers room out x left →
+pub encode_refused_zero : (room : Bor (List ℕ)) (out : MutBor (List ℕ)) (x : Written) (left : List ℕ) → EncodeAnswers room out x left →
     (r : Refusal) → said x ≡ no_by r → left ≡ zeros (length out.now)
 encode_refused_zero room out x left a r e =
     let d = room.now in

@@ -2,7 +2,7 @@
 use Prim.Native.Nat.{ℕ}
 use mathlib.Core.Path.{◌≡◌, sym, ◌∙◌}
 use mathlib.Core.List.{List}
-use denote.Ref.{Bor}
+use Rattle.std.specs.Borrow.{Bor}
 use Rattle.buffer.proofs.Answers as written
 use Rattle.room_find.specs.Part.{PartOf}
 use Rattle.room_find.proofs.record_in.Reads as record_in_lem
@@ -37,7 +37,7 @@ use Rattle.look_continuation_records.proofs.find_whole.Reads as find-whole
 use Rattle.look_continuation_records.proofs.WholeLaws as configs
 use Rattle.room_coverage.proofs.coverage.Reads as coverage
 use Rattle.look_runs.proofs.find_run.Reads as find-run
-use Rattle.look_runs.proofs.ascii_run_lem.Reads as ascii_run_lem
+use Rattle.look_runs.proofs.ascii_run.Reads as ascii_run_lem
 use Rattle.look_scan.proofs.scan_ascii_run.Reads as scan-ascii-run
 use Rattle.look_scan.proofs.scan_ascii_run_length.Reads as scan-ascii-run-length
 use Rattle.look_scan.proofs.Answers as state-scan

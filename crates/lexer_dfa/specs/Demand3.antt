@@ -2,7 +2,7 @@
 -- in the buffers that it is lent. w is a list's bytes, p a point. Assumes nothing.
 use Rattle.std.specs.Prelude.{ℕ, zero, suc, ◌+◌, ◌*◌, ◌-◌, ◌/◌, ◌%◌, ◌^◌, ◌≤◌, ◌<◌, ◌≡◌, Bool, true, ◌&&◌, List, [], leb, ltb, length, get_or, take}
 use contract.Lifetimes.{Lfts}
-use Rattle.std.specs.Borrow.{Bor}
+use Rattle.std.specs.Borrow.{Bor, MutBor}
 use Rattle.refusal.specs.Lists.{pick}
 use Rattle.refusal.specs.Fixed.{NONE, DEAD-STATE}
 use Rattle.look_row.specs.Search.{found, given}
@@ -48,12 +48,12 @@ pub record RowArgs : Type 0 where
   pub list : Bor (List ℕ)
   pub targets : Bor (List ℕ)
   pub conts : Bor (List ℕ)
-  pub segments : Bor (List ℕ)
-  pub masks : Bor (List ℕ)
-  pub distinct : Bor (List ℕ)
-  pub ascii : Bor (List ℕ)
-  pub wide : Bor (List ℕ)
-  pub escape : Bor (List ℕ)
+  pub segments : MutBor (List ℕ)
+  pub masks : MutBor (List ℕ)
+  pub distinct : MutBor (List ℕ)
+  pub ascii : MutBor (List ℕ)
+  pub wide : MutBor (List ℕ)
+  pub escape : MutBor (List ℕ)
 
 -- what it leaves in four of its buffers: the distinct masks, and the rows
 pub record RowsLeft : Type 0 where
@@ -162,7 +162,7 @@ pub record SameRows (n m : ℕ) (l : RowsLeft) (n' m' : ℕ) (k : RowsLeft) : Ty
 -- Masks
 
 -- `segment_mask_matrix` may answer x by its own contract, and leave these numbers in the buffers for segments and masks
-abbrev pub MatrixAnswers : (list segments masks : Bor (List ℕ)) → Masks → (s m : List ℕ) → Type 0
+abbrev pub MatrixAnswers : (list : Bor (List ℕ)) (segments masks : MutBor (List ℕ)) → Masks → (s m : List ℕ) → Type 0
 MatrixAnswers list segments masks x s m =
     (κs : Lfts 3) × (e : _) × matrix.Learnt κs (list, (segments, (masks, tt))) x e × (e.1.0.now ≡ s) × (e.1.1.0.now ≡ m)
 
@@ -178,7 +178,7 @@ abbrev pub point_bit : (s m : List ℕ) (n k p i : ℕ) → ℕ
 point_bit s m n k p i = bit_from s m k p i n 0 0
 
 -- "accepted", with the room that document 01 states
-pub record MasksAsked (list segments masks : Bor (List ℕ)) : Type 0 where
+pub record MasksAsked (list : Bor (List ℕ)) (segments masks : MutBor (List ℕ)) : Type 0 where
   pub accepted : ListAccepted list.now
   pub segments-room : 4096 ≤ length segments.now
   pub masks_room : 8192 ≤ length masks.now
@@ -198,7 +198,7 @@ pub record Flipped (v : List ℕ) (x : Masks) (s m : List ℕ) (w : List ℕ) (y
       point_bit s' m' second.count (words_per_mask w) p i ≡ 1 - point_bit s m first.count (words_per_mask v) p i
 
 -- `distinct_masks` may answer x by its own contract, and leave these numbers in the buffer for distinct masks
-abbrev pub DistinctAnswers : (list segments masks out : Bor (List ℕ)) → Masks → List ℕ → Type 0
+abbrev pub DistinctAnswers : (list : Bor (List ℕ)) (segments masks out : MutBor (List ℕ)) → Masks → List ℕ → Type 0
 DistinctAnswers list segments masks out x d =
     (κs : Lfts 4) × (e : _) × distinct.Learnt κs (list, (segments, (masks, (out, tt)))) x e × (e.1.1.1.0.now ≡ d)
 

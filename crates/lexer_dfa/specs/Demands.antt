@@ -1,7 +1,7 @@
 -- The words in which the demands are stated (document 00, "The demands, as agreed"). Assumes nothing.
 use Rattle.std.specs.Prelude.{ℕ, suc, ◌≤◌, ◌<◌, ◌≡◌, Bool, true, ◌&&◌, List, [], ◌∷◌, ◌⊎◌, eqb, ltb, length, get_or, take}
 use contract.Lifetimes.{Lfts}
-use Rattle.std.specs.Borrow.{Bor}
+use Rattle.std.specs.Borrow.{Bor, MutBor}
 use Rattle.refusal.specs.declared.Refusal.{Refusal}
 use Rattle.refusal.specs.Said.{Said, no_by, ok, no, NOT-TABLE, ROOM}
 use Rattle.refusal.specs.Lists.{some}
@@ -38,7 +38,7 @@ use Rattle.room_coverage.proofs.coverage.Reads as coverage
 -- Demand 2: "Given its room, decoding accepts the lists of up to 8,192 words that meet the layout and the nine index rules, and no others."
 
 -- decode may answer x by its own contract, and leave these numbers in the room, which is its second argument at exit
-abbrev pub DecodeAnswers : (words room : Bor (List ℕ)) → Decoded → List ℕ → Type 0
+abbrev pub DecodeAnswers : (words : Bor (List ℕ)) (room : MutBor (List ℕ)) → Decoded → List ℕ → Type 0
 DecodeAnswers words room x left = (κs : Lfts 2) × (e : _) × decode.Learnt κs (words, (room, tt)) x e × (e.1.0.now ≡ left)
 
 -- w is up to 8,192 words that meet the layout and the nine index rules: the words of a table whose fields are allowed and which obeys the rules. It has so
@@ -49,14 +49,14 @@ pub record Accepted (w : List ℕ) (modes states words : ℕ) : Type 0 where
   pub layout : w ≡ words_of table
   pub fields : Fields table
   pub rules : Rules table
-  pub of_modes_lem : modes ≡ length table.modes
+  pub of_modes : modes ≡ length table.modes
   pub of_states : states ≡ length table.states
   pub of_words : words ≡ length w
 
 -- Demand 2: "Encoding the result gives the same words with nonzero flags made 1; decoding that gives the same table."
 
 -- encode may answer x by its own contract, and leave these numbers in the output, which is its second argument at exit
-abbrev pub EncodeAnswers : (room out : Bor (List ℕ)) → Written → List ℕ → Type 0
+abbrev pub EncodeAnswers : (room : Bor (List ℕ)) (out : MutBor (List ℕ)) → Written → List ℕ → Type 0
 EncodeAnswers room out x left = (κs : Lfts 2) × (e : _) × encode.Learnt κs (room, (out, tt)) x e × (e.1.0.now ≡ left)
 
 -- v is the words w with nonzero flags made 1: w is the words of a table, and v those of the table with its flags so made
@@ -72,10 +72,10 @@ pub record RoundTrip (w : List ℕ) (n : ℕ) (x : Decoded) (d : List ℕ) : Typ
   pub flags : FlagsMade w made
   pub as_many : length made ≡ length w
   -- encoding the room into an output that is long enough answers how many words there are, and leaves them with nonzero flags made 1, then zeros
-  pub encoded : (room out : Bor (List ℕ)) → room.now ≡ d → length w ≤ length out.now → (y : Written) (left : List ℕ) → EncodeAnswers room out y left →
+  pub encoded : (room : Bor (List ℕ)) (out : MutBor (List ℕ)) → room.now ≡ d → length w ≤ length out.now → (y : Written) (left : List ℕ) → EncodeAnswers room out y left →
       (written.said y ≡ ok (length w ∷ [])) × (left ≡ padded (length out.now) made)
   -- decoding those into a room of as many numbers gives the same answer, and leaves the same room, number for number
-  pub again : (words room : Bor (List ℕ)) → words.now ≡ made → length room.now ≡ n → (y : Decoded) (left : List ℕ) → DecodeAnswers words room y left →
+  pub again : (words : Bor (List ℕ)) (room : MutBor (List ℕ)) → words.now ≡ made → length room.now ≡ n → (y : Decoded) (left : List ℕ) → DecodeAnswers words room y left →
       (y ≡ x) × (left ≡ d)
 
 -- Document 01: "Encoding and coverage give NOT-TABLE exactly when the room isn't what decoding leaves for some accepted words; encoding gives ROOM next, when
@@ -86,7 +86,7 @@ pub record Leaves (w d : List ℕ) : Type 0 where
   pub fit : Fit w
   pub words : Bor (List ℕ)
   pub are_words : words.now ≡ w
-  pub room : Bor (List ℕ)
+  pub room : MutBor (List ℕ)
   pub as_long : length room.now ≡ length d
   pub answer : Decoded
   pub leaves : DecodeAnswers words room answer d
