@@ -1,4 +1,3 @@
-use Prim.Native.Nat.{◌-◌}
 use Rattle.buffer.proofs.Overs.{clearing}
 use Rattle.buffer.proofs.bits.Goals as goal
 

@@ -1,4 +1,3 @@
-use Prim.Native.Nat.{◌-◌}
 use Rattle.buffer.proofs.Overs.{clearing}
 use Rattle.buffer.proofs.clear_words.Goals as goal
 

@@ -1,4 +1,3 @@
-use Prim.Native.Nat.{◌-◌}
 use Rattle.list_distinct.proofs.Distincts.{wording}
 use Rattle.list_distinct.proofs.find_word.Goals as goal
 

@@ -1,4 +1,3 @@
-use Prim.Native.Nat.{◌-◌}
 use Rattle.list_masks.proofs.Holds.{seeks, seek_hit}
 use Rattle.list_masks.proofs.seek.Goals as goal
 

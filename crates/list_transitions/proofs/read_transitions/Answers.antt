@@ -1,4 +1,3 @@
-use Prim.Native.Nat.{◌-◌}
 use Rattle.list_transitions.proofs.Records.{records}
 use Rattle.list_transitions.proofs.read_transitions.Goals as goal
 

@@ -1,4 +1,3 @@
-use Prim.Native.Nat.{◌-◌}
 use Rattle.pool_rows.proofs.Rows.{comparing}
 use Rattle.pool_ascii.proofs.same_at.Goals as goal
 

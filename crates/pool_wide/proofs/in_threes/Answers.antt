@@ -1,4 +1,3 @@
-use Prim.Native.Nat.{◌-◌}
 use Rattle.pool_rows.proofs.Rows.{threes}
 use Rattle.pool_wide.proofs.in_threes.Goals as goal
 

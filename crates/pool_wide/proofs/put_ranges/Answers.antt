@@ -1,4 +1,3 @@
-use Prim.Native.Nat.{◌-◌}
 use Rattle.pool_rows.proofs.Rows.{copying}
 use Rattle.pool_wide.proofs.put_ranges.Goals as goal
 

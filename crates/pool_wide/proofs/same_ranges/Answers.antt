@@ -1,4 +1,3 @@
-use Prim.Native.Nat.{◌-◌}
 use Rattle.pool_rows.proofs.Rows.{comparing}
 use Rattle.pool_wide.proofs.same_ranges.Goals as goal
 

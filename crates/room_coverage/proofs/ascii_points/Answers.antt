@@ -1,4 +1,3 @@
-use Prim.Native.Nat.{◌-◌}
 use Rattle.room_coverage.proofs.Laws.{asking}
 use Rattle.room_coverage.proofs.ascii_points.Goals as goal
 

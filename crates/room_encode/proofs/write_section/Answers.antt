@@ -1,4 +1,3 @@
-use Prim.Native.Nat.{◌-◌}
 use Rattle.room_encode.proofs.Writing.{copying}
 use Rattle.room_encode.proofs.write_section.Goals as goal
 

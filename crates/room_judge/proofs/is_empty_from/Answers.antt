@@ -1,4 +1,3 @@
-use Prim.Native.Nat.{◌-◌}
 use Rattle.room_judge.proofs.Comparing.{emptying}
 use Rattle.room_judge.proofs.is_empty_from.Goals as goal
 

@@ -1,4 +1,3 @@
-use Prim.Native.Nat.{◌-◌}
 use Rattle.buffer.proofs.Overs.{clearing}
 use Rattle.row_build.proofs.clear_targets.Goals as goal
 

@@ -1,4 +1,3 @@
-use Prim.Native.Nat.{◌-◌}
 use Rattle.row_build.proofs.Parting.{filling}
 use Rattle.row_build.proofs.fill.Goals as goal
 

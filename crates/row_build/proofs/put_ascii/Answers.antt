@@ -1,4 +1,3 @@
-use Prim.Native.Nat.{◌-◌}
 use Rattle.row_build.proofs.Parting.{targeting}
 use Rattle.row_build.proofs.put_ascii.Goals as goal
 

@@ -1,4 +1,3 @@
-use Prim.Native.Nat.{◌-◌}
 use Rattle.row_build.proofs.Joining.{joining}
 use Rattle.row_build.proofs.put_joined.Goals as goal
 

@@ -1,4 +1,3 @@
-use Prim.Native.Nat.{◌-◌}
 use Rattle.rule_words.proofs.Laws.{counting}
 use Rattle.rule_contexts.proofs.count_configs.Goals as goal
 

@@ -1,4 +1,3 @@
-use Prim.Native.Nat.{◌-◌}
 use Rattle.rule_runs.proofs.Rows.{unpacking}
 use Rattle.rule_runs.proofs.row_of.Goals as goal
 

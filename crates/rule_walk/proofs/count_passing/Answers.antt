@@ -1,4 +1,3 @@
-use Prim.Native.Nat.{◌-◌}
 use Rattle.rule_words.proofs.Laws.{counting}
 use Rattle.rule_walk.proofs.count_passing.Goals as goal
 

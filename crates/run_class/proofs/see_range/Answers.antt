@@ -1,4 +1,3 @@
-use Prim.Native.Nat.{◌-◌}
 use Rattle.run_class.proofs.Classes.{seeing}
 use Rattle.run_class.proofs.see_range.Goals as goal
 

@@ -1,5 +1,4 @@
 use Rattle.run_classify.proofs.Loops.{looking}
-use Prim.Native.Nat.{◌-◌}
 use Rattle.run_classify.proofs.from_self_loops.Goals as goal
 
 pub none-requires : goal.none-requires

@@ -1,5 +1,4 @@
 use Rattle.refusal.proofs.Lists.{searching}
-use Prim.Native.Nat.{◌-◌}
 use Rattle.run_classify.proofs.next_exit.Goals as goal
 
 pub loop-symbol-init : goal.loop-symbol-init

@@ -1,5 +1,4 @@
 use Rattle.refusal.proofs.Lists.{searching}
-use Prim.Native.Nat.{◌-◌}
 use Rattle.run_classify.proofs.next_loop.Goals as goal
 
 pub loop-low-init : goal.loop-low-init

@@ -1,5 +1,4 @@
 use Rattle.run_ranges.proofs.Checks.{checking}
-use Prim.Native.Nat.{◌-◌}
 use Rattle.run_ranges.proofs.ordered.Goals as goal
 
 pub loop-i-init : goal.loop-i-init

@@ -1,4 +1,3 @@
-use Prim.Native.Nat.{◌-◌}
 use Rattle.refusal.proofs.Lists.{searching-least}
 use Rattle.run_scan.proofs.first_outside.Goals as goal
 

@@ -1,5 +1,4 @@
 use Rattle.run_scan.proofs.Scans.{searching-exits}
-use Prim.Native.Nat.{◌-◌}
 use Rattle.run_scan.proofs.memchr.Goals as goal
 
 pub loop-i-init : goal.loop-i-init

@@ -1,4 +1,3 @@
-use Prim.Native.Nat.{◌-◌}
 use Rattle.refusal.proofs.Lists.{searching-parts}
 use Rattle.run_scan.proofs.scan_blocks.Goals as goal
 

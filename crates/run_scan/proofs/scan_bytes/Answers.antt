@@ -1,4 +1,3 @@
-use Prim.Native.Nat.{◌-◌}
 use Rattle.refusal.proofs.Lists.{searching}
 use Rattle.run_scan.proofs.scan_bytes.Goals as goal
 

@@ -1,4 +1,3 @@
-use Prim.Native.Nat.{◌-◌}
 use Rattle.list_transitions.proofs.Gathers.{gathering}
 use Rattle.list_transitions.proofs.intervals.gather.Goals as goal
 
