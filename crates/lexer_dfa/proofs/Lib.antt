@@ -11,3 +11,7 @@ pub mod Covered
 pub mod Buffers
 pub mod Demand3
 pub mod UniqueRows
+pub mod Saying
+pub mod ListBytes
+pub mod ListRead
+pub mod ListsRefused

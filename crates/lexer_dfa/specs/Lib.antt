@@ -2,3 +2,4 @@ pub mod Demands
 pub mod RefusedBy
 pub mod Sheet
 pub mod Demand3
+pub mod ListsRefused
