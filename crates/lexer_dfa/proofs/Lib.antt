@@ -15,3 +15,5 @@ pub mod Saying
 pub mod ListBytes
 pub mod ListRead
 pub mod ListsRefused
+pub mod RowsOf
+pub mod Fits

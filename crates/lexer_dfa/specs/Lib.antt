@@ -3,3 +3,4 @@ pub mod RefusedBy
 pub mod Sheet
 pub mod Demand3
 pub mod ListsRefused
+pub mod Fits
