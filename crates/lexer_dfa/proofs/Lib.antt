@@ -17,3 +17,5 @@ pub mod ListRead
 pub mod ListsRefused
 pub mod RowsOf
 pub mod Fits
+pub mod PoolRows
+pub mod PoolsRefused

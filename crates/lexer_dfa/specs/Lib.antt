@@ -4,3 +4,4 @@ pub mod Sheet
 pub mod Demand3
 pub mod ListsRefused
 pub mod Fits
+pub mod PoolsRefused
