@@ -19,3 +19,4 @@ pub mod RowsOf
 pub mod Fits
 pub mod PoolRows
 pub mod PoolsRefused
+pub mod RowsDecoded

@@ -5,3 +5,4 @@ pub mod Demand3
 pub mod ListsRefused
 pub mod Fits
 pub mod PoolsRefused
+pub mod RowsDecoded
