@@ -20,3 +20,4 @@ pub mod Fits
 pub mod PoolRows
 pub mod PoolsRefused
 pub mod RowsDecoded
+pub mod SheetCalled

@@ -6,3 +6,4 @@ pub mod ListsRefused
 pub mod Fits
 pub mod PoolsRefused
 pub mod RowsDecoded
+pub mod SheetCalled
