@@ -21,3 +21,4 @@ pub mod PoolRows
 pub mod PoolsRefused
 pub mod RowsDecoded
 pub mod SheetCalled
+pub mod Parts

@@ -7,3 +7,4 @@ pub mod Fits
 pub mod PoolsRefused
 pub mod RowsDecoded
 pub mod SheetCalled
+pub mod Parts
