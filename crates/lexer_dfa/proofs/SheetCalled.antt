@@ -62,8 +62,8 @@ segments_said_lem w out x left a e =
     ap₂ (λ (d : List ℕ) (y : Said). left_said (λ l. take (2 * first_of l) d) y) f.leaves f.says
 
 masks_said_lem : (w : Bor (List ℕ)) (cut out : MutBor (List ℕ)) (x : Masks) (between left : List ℕ) → MatrixAnswers w cut out x between left →
-    length cut.now ≡ 4096 →
-    length out.now ≡ 8192 → left_said (λ l. take (product_of l) left) (of_masks.said x) ≡ masks_said (parse_masks 4096 8192 w.now)
+    length cut.now ≡ 4096 → length out.now ≡ 8192 →
+    left_said (λ l. take (product_of l) left) (of_masks.said x) ≡ masks_said (parse_masks 4096 8192 w.now)
 masks_said_lem w cut out x between left a c e =
     let f = rw (a.3, a.4, c, e) at a.2 in
     ap₂ (λ (d : List ℕ) (y : Said). left_said (λ l. take (product_of l) d) y) f.leaves f.says
