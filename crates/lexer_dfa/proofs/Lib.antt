@@ -22,3 +22,4 @@ pub mod PoolsRefused
 pub mod RowsDecoded
 pub mod SheetCalled
 pub mod Parts
+pub mod CoveredExactly

@@ -8,3 +8,4 @@ pub mod PoolsRefused
 pub mod RowsDecoded
 pub mod SheetCalled
 pub mod Parts
+pub mod CoveredExactly
