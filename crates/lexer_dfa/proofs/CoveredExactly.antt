@@ -16,7 +16,6 @@ use Rattle.refusal.specs.Lists.{pick}
 use Rattle.room_judge.specs.Judge.{words_part, is_table}
 use Rattle.law_tables.specs.Table.{Table}
 use Rattle.law_tables.specs.Whole.{Fit}
-use Rattle.law_tables.proofs.Unique.{words_tell}
 use Rattle.room_find.specs.declared.Answer.{Answer}
 use Rattle.room_find.specs.Answer.{said as told}
 use Rattle.room_coverage.specs.Coverage.{coverage_of}
@@ -25,7 +24,7 @@ use Rattle.lexer_dfa.specs.Demands.{Accepted, Leaves, CoverageAnswers}
 use Rattle.lexer_dfa.specs.CoveredExactly.{covered_on, RoomOf, CoveredExactly}
 use Rattle.lexer_dfa.proofs.Decoding.{decode_accepts, decode_refuses}
 use Rattle.lexer_dfa.proofs.RoundTrip.{leaves_table, table_leaves, none_left}
-use Rattle.lexer_dfa.proofs.Covered.{decoded_coverage}
+use Rattle.lexer_dfa.proofs.TableDecoded.{table_covered}
 
 -- The table of a room
 
@@ -58,13 +57,11 @@ left_table {w} {d} l =
     (decode_accepts l.words l.room (left_fit l) (left_enough l) l.answer d l.leaves l.modes l.states l.count).0 l.accepted in
     (a.table, record { fields = a.fields; rules = a.rules; leaves = subst (λ v. Leaves v d) (sym l.are_words ∙ a.layout) l })
 
--- of which coverage counts: words tell their table
+-- of which coverage counts
 table_coverage : {t : Table} {d : List ℕ} → RoomOf t d → (s : ℕ) → coverage_of d s ≡ coverage_on t s
 table_coverage {t} {d} r s =
     let l = r.leaves in
-    let o = decoded_coverage l.words l.room (left_fit l) (left_enough l) l.answer d l.leaves l.modes l.states l.count l.accepted in
-    let one : o.0.table ≡ t = words_tell o.0.table t o.0.fields r.fields (sym o.0.layout ∙ l.are_words) in
-    subst (λ (u : Table). coverage_of d s ≡ coverage_on u s) one (o.1 s)
+    table_covered l.words l.room (left_fit l) (left_enough l) l.answer d l.leaves l.modes l.states l.count l.accepted t l.are_words r.fields s
 
 -- a room is left for no words, or is that of a table
 room_table : (room : Bor (List ℕ)) → Fit room.now → ((w : List ℕ) → Leaves w room.now → ⊥) ⊎ ((t : Table) × RoomOf t room.now)

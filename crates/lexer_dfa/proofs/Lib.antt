@@ -23,3 +23,4 @@ pub mod RowsDecoded
 pub mod SheetCalled
 pub mod Parts
 pub mod CoveredExactly
+pub mod TableDecoded

@@ -16,13 +16,12 @@ use Rattle.room_decode.specs.declared.Decoded.{Decoded}
 use Rattle.room_decode.specs.Decode.{said}
 use Rattle.law_tables.specs.Table.{Table, words_of, Fields}
 use Rattle.law_tables.specs.Whole.{Fit}
-use Rattle.law_tables.proofs.Unique.{words_tell}
 use Rattle.law_lookups.specs.Looks.{of_state, Looks}
 use Rattle.row_build.specs.declared.Rows.TheVariants.{Built}
 use Rattle.lexer_dfa.specs.Demands.{DecodeAnswers}
 use Rattle.lexer_dfa.specs.Demand3.{RowArgs, RowsLeft, BuildAnswers, target_at, cont_at, Placed, Dead, RowsIn}
 use Rattle.lexer_dfa.specs.RowsDecoded.{PlacedAs, DeadAs, TargetAnswers, ContinuationAnswers, BothAnswer, LookedUp}
-use Rattle.lexer_dfa.proofs.Looking.{decoded_looks}
+use Rattle.lexer_dfa.proofs.TableDecoded.{state_there, table_looked}
 use Rattle.lexer_dfa.proofs.Demand3.{rows_in_table}
 use Rattle.lexer_dfa.proofs.RowsOf.{built_kept}
 
@@ -86,8 +85,5 @@ pub rows_decoded : (a : RowArgs) (n m : ℕ) (l : RowsLeft) → BuildAnswers a (
     (t : Table) → words.now ≡ words_of t → Fields t → (s : ℕ) → s < states → RowsIn t s n m l →
     (lent : Bor (List ℕ)) → lent.now ≡ left → LookedUp a.list.now a.targets.now a.conts.now l.distinct lent s
 rows_decoded a n m l b words room f enough x left d modes states count e t is h s there rows lent now =
-    let o = decoded_looks words room f enough x left d modes states count e in
-    let g = o.0 in
-    let one : g.table ≡ t = words_tell g.table t g.fields h (sym g.layout ∙ is) in
-    let within : s < length t.states = subst (λ (u : Table). s < length u.states) one (subst (λ (k : ℕ). s < k) g.of_states there) in
-    looked_up a n m l b t s within rows lent (subst (Looks t) (sym now) (subst (λ (u : Table). Looks u left) one o.1))
+    let within : s < length t.states = state_there words room f enough x left d modes states count e t is h s there in
+    looked_up a n m l b t s within rows lent (subst (Looks t) (sym now) (table_looked words room f enough x left d modes states count e t is h).0)
