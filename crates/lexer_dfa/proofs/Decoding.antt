@@ -192,7 +192,7 @@ module _ (w : List ℕ) (n : ℕ) (f : Fit w) where
       subst (λ v. said (decode_of v n) ≡ no_by (broken_by p i)) (sym o) (breaks t h n (subst (λ v. WithinLimits v n) o r) p i (first_from_lem 1 i _ b) b)
 
   -- the refusals by number
-  says_refused : RefusedBy w n (said (decode_of w n))
+  pub says_refused : RefusedBy w n (said (decode_of w n))
   says_refused = record {
     short = λ p. lifted SHORT p (omega arith) (λ e. omega arith) ((refusals w f).short p);
     tag = λ p. lifted TAG p (omega arith) (λ e. omega arith) ((refusals w f).differs p);
@@ -223,6 +223,11 @@ module _ (w : List ℕ) (n : ℕ) (enough : 16384 ≤ n) {modes states count : �
   keeps_accepted =
       let t = a.table in
       subst (λ v. room_of v n ≡ room_for v n (Found (sections_of t))) (sym a.layout) (obeys_room t a.fields n reads a.rules)
+
+-- and no others are
+pub says_accepted_exactly : (w : List ℕ) (n : ℕ) → Fit w → 16384 ≤ n → (modes states count : ℕ) →
+    Exactly (said (decode_of w n) ≡ ok (modes ∷ states ∷ count ∷ [])) (Accepted w modes states count)
+says_accepted_exactly w n f enough modes states count = (λ h. subst (Why w n) h (why w n f), λ h. says_accepted w n enough h)
 
 -- where decode refuses, the room holds zeros
 keeps_zeros : (w : List ℕ) (n : ℕ) {q : Refusal} (s : Layout) → said (decoded_from w s) ≡ no_by q → kept_from w n s ≡ zeros n

@@ -52,17 +52,17 @@ use Rattle.lexer_dfa.proofs.Buffers.{padded_at, padded-front, padded-stands, sea
 
 -- The rows of a list, as they stand in the buffers
 
-record Laid (ts : List Transition) (targets conts : List ℕ) (n m : ℕ) (l : RowsLeft) : Type 0 where
-  wide_count : n ≡ length (numbers (wide_of ts targets))
-  escape_count : m ≡ length (numbers (escape_of ts targets conts))
-  distinct-room : ℕ
-  distinct_is : l.distinct ≡ padded distinct-room (flat (distinct_of ts))
-  ascii_room : ℕ
-  ascii_is : l.ascii ≡ padded ascii_room (ascii_of ts targets)
-  wide_room : ℕ
-  wide_is : l.wide ≡ padded wide_room (numbers (wide_of ts targets))
-  escape_room : ℕ
-  escape_is : l.escape ≡ padded escape_room (numbers (escape_of ts targets conts))
+pub record Laid (ts : List Transition) (targets conts : List ℕ) (n m : ℕ) (l : RowsLeft) : Type 0 where
+  pub wide_count : n ≡ length (numbers (wide_of ts targets))
+  pub escape_count : m ≡ length (numbers (escape_of ts targets conts))
+  pub distinct-room : ℕ
+  pub distinct_is : l.distinct ≡ padded distinct-room (flat (distinct_of ts))
+  pub ascii_room : ℕ
+  pub ascii_is : l.ascii ≡ padded ascii_room (ascii_of ts targets)
+  pub wide_room : ℕ
+  pub wide_is : l.wide ≡ padded wide_room (numbers (wide_of ts targets))
+  pub escape_room : ℕ
+  pub escape_is : l.escape ≡ padded escape_room (numbers (escape_of ts targets conts))
 
 module _ {ts : List Transition} {targets conts : List ℕ} {n m : ℕ} {l : RowsLeft} (s : Laid ts targets conts n m l) where
   -- what is looked up there is what the laws on rows look up
@@ -98,7 +98,7 @@ module _ {ts : List Transition} {targets conts : List ℕ} {n m : ℕ} {l : Rows
 
 -- where it answers rows, they are those of a list
 module _ {n m : ℕ} {given : Lent} {seg masks : List ℕ} {l : RowsLeft} {targets conts : List ℕ} where
-  built_laid : (ts : List Transition) → Builds (Built n m) given seg masks l.distinct l.ascii l.wide l.escape targets conts (parsed ts) →
+  pub built_laid : (ts : List Transition) → Builds (Built n m) given seg masks l.distinct l.ascii l.wide l.escape targets conts (parsed ts) →
       Laid ts targets conts n m l
   unfolding counted masks_in ascii_in wide_in escape_in
   built_laid ts b =
@@ -172,13 +172,13 @@ asked_parsed a q =
     q.wide_room q.escape_room
 
 -- the call's own contract, over what it left
-record Given (a : RowArgs) (x : Rows) (l : RowsLeft) : Type 0 where
-  segments : List ℕ
-  masks : List ℕ
-  built : Builds x (lent_by a) segments masks l.distinct l.ascii l.wide l.escape a.targets.now a.conts.now
+pub record Given (a : RowArgs) (x : Rows) (l : RowsLeft) : Type 0 where
+  pub segments : List ℕ
+  pub masks : List ℕ
+  pub built : Builds x (lent_by a) segments masks l.distinct l.ascii l.wide l.escape a.targets.now a.conts.now
       (parse_rows (lent_by a) a.list.now a.targets.now a.conts.now)
 
-given : (a : RowArgs) (x : Rows) (l : RowsLeft) → BuildAnswers a x l → Given a x l
+pub given : (a : RowArgs) (x : Rows) (l : RowsLeft) → BuildAnswers a x l → Given a x l
 given a x l b = record { segments = b.1.1.1.1.0.now; masks = b.1.1.1.1.1.0.now; built = rw (b.3, b.4, b.5, b.6) at b.2 }
 
 -- Rows of an accepted list, with as many targets as it has distinct masks
@@ -197,7 +197,7 @@ module _ (w targets conts : List ℕ) (good : ListAccepted w) (each : length tar
         cont_live = λ e. cont_is s p ∙ h.cont_live e;
       }
 
-  laid_kept : RowsKept w targets conts (Built n m) l
+  pub laid_kept : RowsKept w targets conts (Built n m) l
   laid_kept =
       let looked = accepted_looked w good targets conts in
       record {
@@ -341,7 +341,7 @@ masks_flipped list segments masks q x s m b list' segments' masks' q' y s' m' b'
 -- The masks that a caller is told of, and those by which it gives targets
 
 -- the row call answers rows of a list that was read, with as many targets and continuations as it has distinct masks
-built_parsed : {n m : ℕ} {given : Lent} {seg masks : List ℕ} {l : RowsLeft} {targets conts : List ℕ} (x : Parsed) →
+pub built_parsed : {n m : ℕ} {given : Lent} {seg masks : List ℕ} {l : RowsLeft} {targets conts : List ℕ} (x : Parsed) →
     Builds (Built n m) given seg masks l.distinct l.ascii l.wide l.escape targets conts x → (ts : List Transition) × (x ≡ parsed ts)
 unfolding counted
 built_parsed (parsed ts) b = (ts, refl)

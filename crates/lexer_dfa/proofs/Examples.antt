@@ -50,7 +50,7 @@ unfolding row_on up_from some before joined ranges_from up_to_four in_ranges hel
 sheet_right = (refl, (refl, (refl, (refl, (refl, (refl, (refl, (refl, (refl, (refl, (refl, (refl, (refl, (refl, (refl, (refl, (refl, tt)))))))))))))))))
 
 -- "256 transitions pass; 257: 4": so many wildcards
-abbrev wildcards : ℕ → List ℕ
+abbrev pub wildcards : ℕ → List ℕ
 wildcards n = each (λ tag. tag ∷ 0 ∷ 0 ∷ []) (replicate n 5)
 
 pub limits_right : Right ((transitions (wildcards 256) says ok (256 ∷ 256 ∷ [])) ∷ (transitions (wildcards 257) says no 4 768) ∷ [])

@@ -11,3 +11,16 @@ pub mod Covered
 pub mod Buffers
 pub mod Demand3
 pub mod UniqueRows
+pub mod Saying
+pub mod ListBytes
+pub mod ListRead
+pub mod ListsRefused
+pub mod RowsOf
+pub mod Fits
+pub mod PoolRows
+pub mod PoolsRefused
+pub mod RowsDecoded
+pub mod SheetCalled
+pub mod Parts
+pub mod CoveredExactly
+pub mod TableDecoded

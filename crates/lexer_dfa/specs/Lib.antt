@@ -2,3 +2,10 @@ pub mod Demands
 pub mod RefusedBy
 pub mod Sheet
 pub mod Demand3
+pub mod ListsRefused
+pub mod Fits
+pub mod PoolsRefused
+pub mod RowsDecoded
+pub mod SheetCalled
+pub mod Parts
+pub mod CoveredExactly

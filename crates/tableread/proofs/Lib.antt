@@ -1,1 +1,4 @@
 pub mod Lines
+pub mod Back
+pub mod Small
+pub mod Told
