@@ -1,5 +1,5 @@
--- Each contract determines the answer, the part that is handed back, and what is left in a buffer that is lent, since it is an equation for each. Assumes
--- nothing.
+-- Each contract determines the answer, the part that is handed back, and what is left in a buffer that is lent, since it is an equation for each. Not so
+-- that of `read_full`: what an input gives is no argument. Assumes nothing.
 use Rattle.std.proofs.Common.{sym, ◌∙◌}
 use Rattle.replay_io.proofs.read.byte.Reads as byte
 use Rattle.replay_io.proofs.read.after.Reads as after
