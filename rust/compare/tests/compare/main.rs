@@ -135,8 +135,8 @@ fn sample() -> Result<Check, String> {
 
 /// A check that runs a program.
 fn program(name: &str, check: Check) -> Result<Check, String> {
-    if !std::path::Path::new(&format!("{}{name}", show::PROGRAMS)).exists() {
-        return Err(format!("target/bin/{name} is not there (rt check {name})"));
+    if !std::path::Path::new(&show::program(name)).exists() {
+        return Err(format!("crates/{name}/out/{name} is not there (./run {name})"));
     }
     Ok(check)
 }

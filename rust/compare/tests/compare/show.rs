@@ -8,16 +8,14 @@ use compare::tables::{self, broken, build, damage};
 use std::io::{ErrorKind, Write};
 use std::process::{Command, Stdio};
 
-/// Where programs stand.
-pub const PROGRAMS: &str = concat!(env!("CARGO_MANIFEST_DIR"), "/../../target/bin/");
-
-/// Runs a program, on any processor.
-const RUN: &str = concat!(env!("CARGO_MANIFEST_DIR"), "/../../run");
+/// Where `rt run` leaves a program.
+pub fn program(name: &str) -> String {
+    format!("{}/../../crates/{name}/out/{name}", env!("CARGO_MANIFEST_DIR"))
+}
 
 /// What the program prints for an input.
 fn printed(name: &str, input: &[u8]) -> String {
-    let mut program = Command::new(RUN)
-        .arg(name)
+    let mut program = Command::new(program(name))
         .stdin(Stdio::piped())
         .stdout(Stdio::piped())
         .spawn()
