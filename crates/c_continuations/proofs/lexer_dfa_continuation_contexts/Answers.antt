@@ -2,8 +2,5 @@
 use Rattle.c_continuations.proofs.Calls.{calling}
 use Rattle.c_continuations.proofs.lexer_dfa_continuation_contexts.Goals as goal
 
-pub continuation_contexts_span-requires : goal.continuation_contexts_span-requires
-continuation_contexts_span-requires c = search calling
-
 pub returns : goal.returns
 returns c = search calling

@@ -2,11 +2,5 @@
 use Rattle.c_value.proofs.Calls.{looking}
 use Rattle.c_continuations.proofs.lexer_dfa_eof_continuation.Goals as goal
 
-pub eof_continuation-requires : goal.eof_continuation-requires
-eof_continuation-requires c = search looking
-
-pub value_in_c-requires : goal.value_in_c-requires
-value_in_c-requires c = search looking
-
 pub returns : goal.returns
 returns c = search looking

@@ -2,12 +2,6 @@
 use Rattle.c_mode_lists.proofs.Calls.{looking}
 use Rattle.c_mode_lists.proofs.lexer_dfa_compiled_mode_flags.Goals as goal
 
-pub compiled_mode_flags-requires : goal.compiled_mode_flags-requires
-compiled_mode_flags-requires c = search looking
-
-pub written_in_c-requires : goal.written_in_c-requires
-written_in_c-requires c = search looking
-
 pub shape_of-out : goal.shape_of-out
 shape_of-out c = search looking
 

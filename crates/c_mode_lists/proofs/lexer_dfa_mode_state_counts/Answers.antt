@@ -2,12 +2,6 @@
 use Rattle.c_mode_lists.proofs.Calls.{looking}
 use Rattle.c_mode_lists.proofs.lexer_dfa_mode_state_counts.Goals as goal
 
-pub mode_state_counts-requires : goal.mode_state_counts-requires
-mode_state_counts-requires c = search looking
-
-pub written_in_c-requires : goal.written_in_c-requires
-written_in_c-requires c = search looking
-
 pub shape_of-out : goal.shape_of-out
 shape_of-out c = search looking
 
