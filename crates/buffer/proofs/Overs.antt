@@ -72,66 +72,48 @@ pub lay-zeros : (n : ℕ) (xs : List ℕ) → length xs ≤ n → lay 0 xs (zero
 unfolding lay
 lay-zeros n xs h = over_zeros n xs h
 
--- The loops that make all numbers 0: those before n are 0 in l, the others as they were in d
+-- The loops that make all numbers 0, of any width: those before n are z in l, the others as they were in d
 
-abbrev pub Clearing : List ℕ → ℕ → List ℕ → Type 0
-Clearing d n l = (l ≡ replicate n 0 ++ drop n d) × (length l ≡ length d) × (n ≤ length d)
+module _ {X : Type 0} (z : X) where
+  abbrev pub Clearing : List X → ℕ → List X → Type 0
+  Clearing d n l = (l ≡ replicate n z ++ drop n d) × (length l ≡ length d) × (n ≤ length d)
 
-pub clear_turn : (n : ℕ) (d : List ℕ) {l : List ℕ} → n < length l → length l ≡ length d → l ≡ replicate n 0 ++ drop n d →
-    set l n 0 ≡ replicate (n + 1) 0 ++ drop (n + 1) d
-clear_turn n d h k e = ap (λ (l : List ℕ). set l n 0) e ∙ fill_more n 0 d (omega arith)
+  filled : (n : ℕ) (d : List X) → n < length d → set (replicate n z ++ drop n d) n z ≡ replicate (suc n) z ++ drop (suc n) d
+  filled n [] h = absurd (not-suc-le-zero h)
+  filled zero (x ∷ d) h = refl
+  filled (suc n) (x ∷ d) h = ap (λ (l : List X). z ∷ l) (filled n d (le_of_suc-le-suc h))
 
-pub clear_done : (n : ℕ) (d : List ℕ) {l : List ℕ} → length l ≤ n → length l ≡ length d → n ≤ length d →
-    l ≡ replicate n 0 ++ drop n d → l ≡ zeros (length d)
-clear_done n d h k m e = let i : n ≡ length d = omega arith in e ∙ (rw (i, drop-length, append-nil))
+  pub clear_turn : (n : ℕ) (d : List X) {l : List X} → n < length l → length l ≡ length d → l ≡ replicate n z ++ drop n d →
+      set l n z ≡ replicate (n + 1) z ++ drop (n + 1) d
+  clear_turn n d h k e = rw (add-one n) (ap (λ (l : List X). set l n z) e ∙ filled n d (omega (arith, h, k)))
 
--- A part of k numbers from n on is made 0, the numbers before it are 0
+  -- A part of k numbers from n on is made z, the numbers before it are
 
-seams : (n : ℕ) (ys : List ℕ) → (take n (zeros n ++ ys) ≡ zeros n) × (drop n (zeros n ++ ys) ≡ ys)
-seams zero ys = (refl, refl)
-seams (suc n) ys = (ap (λ (l : List ℕ). 0 ∷ l) (seams n ys).0, (seams n ys).1)
+  seams : (n : ℕ) (ys : List X) → (take n (replicate n z ++ ys) ≡ replicate n z) × (drop n (replicate n z ++ ys) ≡ ys)
+  seams zero ys = (refl, refl)
+  seams (suc n) ys = (ap (λ (l : List X). z ∷ l) (seams n ys).0, (seams n ys).1)
 
-joined : (n k : ℕ) (ys : List ℕ) → zeros n ++ (zeros k ++ ys) ≡ zeros (n + k) ++ ys
-joined n k ys = sym (append_assoc (zeros n) (zeros k) ys) ∙ ap (λ (l : List ℕ). l ++ ys) (replicate-append-replicate n k 0)
+  joined : (n k : ℕ) (ys : List X) → replicate n z ++ (replicate k z ++ ys) ≡ replicate (n + k) z ++ ys
+  joined n k ys = sym (append_assoc (replicate n z) (replicate k z) ys) ∙ ap (λ (l : List X). l ++ ys) (replicate-append-replicate n k z)
 
-clear_part : (n k : ℕ) (d : List ℕ) {l e : List ℕ} → n + k ≤ length l → l ≡ zeros n ++ drop n d → e ≡ zeros (length (mid_of n k l)) →
-    put_mid n k l e ≡ zeros (n + k) ++ drop (n + k) d
-clear_part n k d {l} {e} h i z =
-    let f : take n l ≡ zeros n = ap (take n) i ∙ (seams n (drop n d)).0 in
-    let g : drop n l ≡ drop n d = ap (drop n) i ∙ (seams n (drop n d)).1 in
-    let m : length (mid_of n k l) ≡ k = length-take-le k (drop n l) (omega (arith, length-drop n l)) in
-    let p : post_of n k l ≡ drop (n + k) d = ap (drop k) g ∙ drop-drop k n d in
-    (rw (f, z, m, p)) ∙ joined n k (drop (n + k) d)
+  clear_part : (n k : ℕ) (d : List X) {l e : List X} → n + k ≤ length l → l ≡ replicate n z ++ drop n d → e ≡ replicate (length (mid_of n k l)) z →
+      put_mid n k l e ≡ replicate (n + k) z ++ drop (n + k) d
+  clear_part n k d {l} {e} h i f =
+      let g : take n l ≡ replicate n z = ap (take n) i ∙ (seams n (drop n d)).0 in
+      let b : drop n l ≡ drop n d = ap (drop n) i ∙ (seams n (drop n d)).1 in
+      let m : length (mid_of n k l) ≡ k = length-take-le k (drop n l) (omega (arith, length-drop n l)) in
+      let p : post_of n k l ≡ drop (n + k) d = ap (drop k) b ∙ drop-drop k n d in
+      (rw (g, f, m, p)) ∙ joined n k (drop (n + k) d)
 
-pub clear_block : (n k : ℕ) (d : List ℕ) {l e : List ℕ} → k ≤ length l - n → n ≤ length d → length l ≡ length d →
-    l ≡ replicate n 0 ++ drop n d → e ≡ zeros (length (mid_of n (n + k - n) l)) → put_mid n (n + k - n) l e ≡ replicate (n + k) 0 ++ drop (n + k) d
-clear_block n k d h m j i z = let s : n + (n + k - n) ≡ n + k = omega arith in clear_part n (n + k - n) d (omega arith) i z ∙ (rw s)
+  pub clear_block : (n k : ℕ) (d : List X) {l e : List X} → k ≤ length l - n → n ≤ length d → length l ≡ length d →
+      l ≡ replicate n z ++ drop n d → e ≡ replicate (length (mid_of n (n + k - n) l)) z → put_mid n (n + k - n) l e ≡ replicate (n + k) z ++ drop (n + k) d
+  clear_block n k d h m j i f = let s : n + (n + k - n) ≡ n + k = omega arith in clear_part n (n + k - n) d (omega arith) i f ∙ (rw s)
 
-pub clear_rest : (n : ℕ) (d : List ℕ) {l e : List ℕ} → n ≤ length d → length l ≡ length d → l ≡ replicate n 0 ++ drop n d →
-    e ≡ zeros (length (mid_of n (length l - n) l)) → put_mid n (length l - n) l e ≡ zeros (length d)
-clear_rest n d {l} h k i z =
-    let s : n + (length l - n) ≡ length d = omega arith in
-    clear_part n (length l - n) d (omega arith) i z ∙ (rw (s, drop-length, append-nil))
+  pub clear_rest : (n : ℕ) (d : List X) {l e : List X} → n ≤ length d → length l ≡ length d → l ≡ replicate n z ++ drop n d →
+      e ≡ replicate (length (mid_of n (length l - n) l)) z → put_mid n (length l - n) l e ≡ replicate (length d) z
+  clear_rest n d {l} h k i f =
+      let s : n + (length l - n) ≡ length d = omega arith in
+      clear_part n (length l - n) d (omega arith) i f ∙ (rw (s, drop-length, append-nil))
 
-pub part_length : (n k : ℕ) (l : List ℕ) {e : List ℕ} → e ≡ zeros (length (mid_of n k l)) → length (put_mid n k l e) ≡ length l
-part_length n k l {e} z = same_len_mid n k l e (ap length z ∙ length-replicate (length (mid_of n k l)) 0)
-
--- The loops that read whether all numbers are 0: where the bits of those before n are, so are the numbers
-
-abbrev pub Reading : List ℕ → ℕ → ℕ → Type 0
-Reading d all n = (all ≡ 0 → d ≡ replicate n 0 ++ drop n d) × (n ≤ length d)
-
-or_zero : (a b : ℕ) → bit_or a b ≡ 0 → (a ≡ 0) × (b ≡ 0)
-or_zero a b h = (omega (arith, or_add_and a b, and_le_r a b, h), omega (arith, or_add_and a b, and_le_l a b, h))
-
-pub bits_turn : (n : ℕ) (d : List ℕ) {all : ℕ} → n < length d → (all ≡ 0 → d ≡ replicate n 0 ++ drop n d) →
-    bit_or all (get_or d n 0) ≡ 0 → d ≡ replicate (n + 1) 0 ++ drop (n + 1) d
-bits_turn n d {all} h f e =
-    let o : (all ≡ 0) × (get_or d n 0 ≡ 0) = or_zero all (get_or d n 0) e in
-    sym (set-get_or d n 0) ∙ ap (set d n) o.1 ∙ clear_turn n d h refl (f o.0)
-
-pub bits_done : (n : ℕ) (d : List ℕ) {all : ℕ} → length d ≤ n → n ≤ length d → (all ≡ 0 → d ≡ replicate n 0 ++ drop n d) →
-    all ≡ 0 → d ≡ zeros (length d)
-bits_done n d h m f e = clear_done n d h refl m (f e)
-
-pub ruleset clearing = (rules, clear_turn, clear_done, clear_block, clear_rest, part_length, bits_turn, bits_done)
+  pub part_length : (n k : ℕ) (l : List X) {e : List X} → e ≡ replicate (length (mid_of n k l)) z → length (put_mid n k l e) ≡ length l
+  part_length n k l {e} f = same_len_mid n k l e (ap length f ∙ length-replicate (length (mid_of n k l)) z)

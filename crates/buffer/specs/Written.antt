@@ -1,13 +1,12 @@
--- What a call says that writes into a lent buffer. Assumes nothing.
-use Rattle.std.specs.Prelude.{ℕ, [], ◌∷◌}
+-- What a call says that writes into a lent buffer: how many numbers it wrote, or why none. Assumes nothing.
+use Rattle.std.specs.Prelude.{ℕ, [], ◌∷◌, Result, Ok, Err}
+use Rattle.refusal.specs.declared.Refusal.{Refusal}
 use Rattle.refusal.specs.Said.{Said, ok, refusal_at, no_by}
-use Rattle.buffer.specs.declared.Written.{Written}
-use Rattle.buffer.specs.declared.Written.TheVariants.{Numbers, Refused}
 
 -- how many numbers were written, or a refusal
-abbrev pub said : Written → Said
-said (Numbers n) = ok (n ∷ [])
-said (Refused r) = no_by r
+abbrev pub said : Result ℕ Refusal → Said
+said (Ok n) = ok (n ∷ [])
+said (Err r) = no_by r
 
-abbrev pub refused : ℕ → ℕ → Written
-refused n p = Refused (refusal_at n p)
+abbrev pub refused : ℕ → ℕ → Result ℕ Refusal
+refused n p = Err (refusal_at n p)

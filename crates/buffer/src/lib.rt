@@ -1,17 +1,54 @@
-// Lent buffers made zero: of 32-bit numbers, and of the 64-bit words that masks have; and what a call answers that writes into one. In specs/ what
-// it is to write a list over a part of another, in proofs/ the law of every loop that does.
+// Lent buffers made zero, whatever numbers they have: targets of 16 bits, numbers of 32, and the words of masks, of 64. In specs/ what it is to write a
+// list over a part of another, and what a call says that writes into a buffer; in proofs/ the law of every loop that does.
 #![tactic(auto)]
 
-ghost use Rattle.std.specs.Prelude.{◌≡◌, length};
-ghost use Rattle.buffer.specs.Over.{zeros};
+ghost use Rattle.std.specs.Prelude.{◌≡◌, IsTrue, length, replicate};
 
-use refusal::Refusal;
+// A number that a buffer has.
+pub trait Number: Copy {
+    ghost zero: { Self };
 
-// How many numbers were written, or why none were.
-#[derive(Clone, Copy)]
-pub enum Written {
-    Numbers(usize),
-    Refused(Refusal),
+    fn zero() -> Self
+        ensures { result ≡ zero };
+
+    fn is_zero(self) -> bool
+        ensures { IsTrue result → self ≡ zero };
+}
+
+impl Number for u16 {
+    ghost zero = { 0 };
+
+    fn zero() -> u16 {
+        0
+    }
+
+    fn is_zero(self) -> bool {
+        self == 0
+    }
+}
+
+impl Number for u32 {
+    ghost zero = { 0 };
+
+    fn zero() -> u32 {
+        0
+    }
+
+    fn is_zero(self) -> bool {
+        self == 0
+    }
+}
+
+impl Number for u64 {
+    ghost zero = { 0 };
+
+    fn zero() -> u64 {
+        0
+    }
+
+    fn is_zero(self) -> bool {
+        self == 0
+    }
 }
 
 // How many numbers are read at a time, and written where they are not all 0.
@@ -20,39 +57,36 @@ pub const BLOCK: usize = 256;
 // Up to so many numbers stay in the nearest cache, where to write costs less than to read.
 const CACHED: usize = 4096;
 
-// The bits of all numbers together, so 0 only where every number is 0. The loop has no other way out: it reads several at once.
-fn bits(block: &[u32]) -> u32
-    ensures { result ≡ 0 → block.now ≡ zeros (length block.now) }
+// Whether every number is 0. The loop has no other way out: it reads several at once.
+fn is_clear<T: Number>(block: &[T]) -> bool
+    ensures { IsTrue result → block.now ≡ replicate (length block.now) T.zero }
 {
-    let mut all = 0;
-    let mut n = 0;
-    while n < block.len() {
-        all = all | block[n];
-        n += 1;
+    let mut clear = true;
+    for number in block {
+        clear &= number.is_zero();
     }
-    all
+    clear
 }
 
-fn write_zeros(numbers: &mut [u32])
-    ensures { numbers.new ≡ zeros (length numbers.old) }
+fn write_zeros<T: Number>(numbers: &mut [T])
+    ensures { numbers.new ≡ replicate (length numbers.old) T.zero }
 {
-    let mut i = 0;
-    while i < numbers.len() {
-        numbers[i] = 0;
-        i += 1;
+    for number in numbers.iter_mut() {
+        *number = T::zero();
     }
 }
 
-fn clear_block(block: &mut [u32])
-    ensures { block.new ≡ zeros (length block.old) }
+fn clear_block<T: Number>(block: &mut [T])
+    ensures { block.new ≡ replicate (length block.old) T.zero }
 {
-    if bits(block) != 0 {
+    if !is_clear(block) {
         write_zeros(block);
     }
 }
 
-fn clear_blocks(numbers: &mut [u32])
-    ensures { numbers.new ≡ zeros (length numbers.old) }
+// Block by block. A `while`, since of what `chunks_mut` lent a proof knows nothing when the loop is over.
+fn clear_blocks<T: Number>(numbers: &mut [T])
+    ensures { numbers.new ≡ replicate (length numbers.old) T.zero }
 {
     let mut at = 0;
     while numbers.len() - at >= BLOCK {
@@ -63,53 +97,12 @@ fn clear_blocks(numbers: &mut [u32])
 }
 
 // Makes every number 0. A long buffer is lent again and again and is mostly 0 already, so it is read first: to write it all costs more.
-pub fn clear(numbers: &mut [u32])
-    ensures { numbers.new ≡ zeros (length numbers.old) }
+pub fn clear<T: Number>(numbers: &mut [T])
+    ensures { numbers.new ≡ replicate (length numbers.old) T.zero }
 {
     if numbers.len() > CACHED {
         clear_blocks(numbers);
     } else {
         write_zeros(numbers);
     }
-}
-
-fn word_bits(block: &[u64]) -> u64
-    ensures { result ≡ 0 → block.now ≡ zeros (length block.now) }
-{
-    let mut all = 0;
-    let mut n = 0;
-    while n < block.len() {
-        all = all | block[n];
-        n += 1;
-    }
-    all
-}
-
-fn write_zero_words(words: &mut [u64])
-    ensures { words.new ≡ zeros (length words.old) }
-{
-    let mut k = 0;
-    while k < words.len() {
-        words[k] = 0;
-        k += 1;
-    }
-}
-
-fn clear_word_block(block: &mut [u64])
-    ensures { block.new ≡ zeros (length block.old) }
-{
-    if word_bits(block) != 0 {
-        write_zero_words(block);
-    }
-}
-
-pub fn clear_words(words: &mut [u64])
-    ensures { words.new ≡ zeros (length words.old) }
-{
-    let mut from = 0;
-    while words.len() - from >= BLOCK {
-        clear_word_block(&mut words[from..from + BLOCK]);
-        from += BLOCK;
-    }
-    write_zero_words(&mut words[from..]);
 }

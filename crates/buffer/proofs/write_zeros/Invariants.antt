@@ -1,11 +1,6 @@
--- The numbers before i are 0, the others as they were. The measure is how many are left.
-use Prim.Native.Nat.{◌-◌}
-use lib.ListN.{length}
+-- The numbers before the index are 0, the others as they were.
 use Rattle.buffer.proofs.Overs.{Clearing}
 use Rattle.buffer.proofs.write_zeros.Given as goal
 
-abbrev pub invariant-loop-i : goal.invariant-loop-i
-invariant-loop-i l = Clearing l.initial.numbers l.i l.numbers
-
-abbrev pub decreases-loop-i : goal.decreases-loop-i
-decreases-loop-i l = length l.initial.numbers - l.i
+abbrev pub invariant-loop-number : goal.invariant-loop-number
+invariant-loop-number g l = Clearing g.T.Number.zero l.initial.numbers l.number-index l.numbers
