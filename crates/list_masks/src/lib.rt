@@ -12,8 +12,7 @@ ghost use Rattle.list_masks.specs.Masks.{bit, word_of, mask_of, masks_at, flat};
 ghost use Rattle.list_masks.specs.Walk.{next_of, Rises, Passed, Reach, Floor, last, Spans, by_low, Tells, Covers, lows, column, Columned};
 ghost use Rattle.list_masks.specs.Answer.{parse_masks, Matrix, Ready};
 
-use list_segments::Segments;
-use list_transitions::{ORIGIN, Transitions};
+use list_transitions::ORIGIN;
 use refusal::{ROOM, Refusal};
 
 // No point has a key above LAST; PAST is above it.
@@ -33,11 +32,11 @@ struct Span {
     high: u64,
 }
 
-// How many masks there are, and of how many words each, or why there are none.
+// How many masks there are, and of how many words each.
 #[derive(Clone, Copy)]
-pub enum Masks {
-    Count { masks: usize, words: usize },
-    Refused(Refusal),
+pub struct Masks {
+    pub masks: usize,
+    pub words: usize,
 }
 
 fn wide(x: u8) -> u64
@@ -398,20 +397,20 @@ fn transition_count(list: &[u8]) -> usize
     ensures { result ≡ length (accepted (parse list.now)) }
 {
     match list_transitions::read_transitions(list) {
-        Transitions::Read { count, intervals } => count,
-        Transitions::Refused(r) => 0,
+        Ok(read) => read.count,
+        Err(_) => 0,
     }
 }
 
 // The masks of the segments that stand, into a buffer of zeros.
 fn fill_masks(list: &[u8], segments: &[u32], count: usize, masks: &mut [u64]) -> Masks
     requires { Ready list.now segments.now count masks.old }
-    ensures { Matrix result (length segments.now) segments.now (length masks.old) masks.new
+    ensures { Matrix (Ok result) (length segments.now) segments.now (length masks.old) masks.new
         (parse list.now) }
 {
     let n = transition_count(list);
     put_masks(list, n, segments, count, masks);
-    Masks::Count {
+    Masks {
         masks: count,
         words: (n + 63) / 64,
     }
@@ -419,21 +418,23 @@ fn fill_masks(list: &[u8], segments: &[u32], count: usize, masks: &mut [u64]) ->
 
 // The segments of a list as low, high, and for each its mask. Refused: every number of both buffers is 0. Accepted: behind the answer's
 // numbers there are zeros.
-pub fn segment_mask_matrix(list: &[u8], segments: &mut [u32], masks: &mut [u64]) -> Masks
+pub fn segment_mask_matrix(
+    list: &[u8],
+    segments: &mut [u32],
+    masks: &mut [u64],
+) -> Result<Masks, Refusal>
     ensures { Matrix result (length segments.old) segments.new (length masks.old) masks.new
         (parse_masks (length segments.old) (length masks.old) list.now) }
 {
     buffer::clear_words(masks);
     if masks.len() < WORDS {
         buffer::clear(segments);
-        return Masks::Refused(Refusal {
+        return Err(Refusal {
             number: ROOM,
             item: 0,
             place: 0,
         });
     }
-    match list_segments::char_segments(list, segments) {
-        Segments::Count(count) => fill_masks(list, segments, count, masks),
-        Segments::Refused(r) => Masks::Refused(r),
-    }
+    let count = list_segments::char_segments(list, segments)?;
+    Ok(fill_masks(list, segments, count, masks))
 }

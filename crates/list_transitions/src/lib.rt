@@ -5,7 +5,7 @@
 mod intervals;
 
 ghost use Rattle.std.specs.Prelude.{◌≡◌, [], true, suc, ◌+◌, ◌*◌, ◌≤◌, ◌<◌, max, length};
-ghost use Rattle.refusal.specs.Said.{no};
+ghost use Rattle.refusal.specs.Said.{refusal_at};
 ghost use Rattle.list_transitions.specs.Transition.{orderly, in_order, origin};
 ghost use Rattle.list_transitions.specs.Intervals.{clip, clips, gaps, intervals};
 ghost use Rattle.list_transitions.specs.Bytes.{number_at, size_at, pairs_at, shape_of, trans_of};
@@ -22,18 +22,18 @@ pub(crate) const BEYOND: u64 = 2148597760;
 // Both ends of the most intervals that a list may have.
 const ENDS: usize = 2048;
 
-// How many transitions and intervals a list has, or why it is none.
+// How many transitions and intervals a list has.
 #[derive(Clone, Copy)]
-pub enum Transitions {
-    Read { count: usize, intervals: usize },
-    Refused(Refusal),
+pub struct Transitions {
+    pub count: usize,
+    pub intervals: usize,
 }
 
-// Where the next record starts and how many intervals this one has, or its refusal's number.
+// Where the next record starts, and how many intervals this one has.
 #[derive(Clone, Copy)]
-enum Step {
-    Good { next: usize, intervals: usize },
-    Bad(u32),
+struct Step {
+    next: usize,
+    intervals: usize,
 }
 
 fn wide(x: u8) -> u64
@@ -214,97 +214,84 @@ fn count(list: &[u8], tag: u8, size: usize, p: usize) -> usize
     1
 }
 
-// The record at `at`, whose value has `size` bytes, all there.
-fn read_body(list: &[u8], at: usize, size: usize) -> Step
-    requires { at + 3 + size ≤ length list.now }
-    ensures { result ≡ step_of (body_at list.now at size) }
+fn refuse(number: u32, place: usize) -> Refusal
+    ensures { result ≡ refusal_at number place }
 {
-    let tag = list[at];
-    if shape(tag, size) {
-        if in_order(list, tag, size, at + 3) {
-            return Step::Good {
-                next: at + 3 + size,
-                intervals: count(list, tag, size, at + 3),
-            };
-        }
-        return Step::Bad(ORDER);
-    }
-    Step::Bad(FIELD)
-}
-
-fn read_record(list: &[u8], at: usize) -> Step
-    ensures { result ≡ step_of (record_at list.now at) }
-{
-    if at < list.len() {
-        if 3 <= list.len() - at {
-            let size = size_at(list, at + 1);
-            if size <= list.len() - at - 3 {
-                return read_body(list, at, size);
-            }
-        }
-    }
-    Step::Bad(SHORT)
-}
-
-fn refuse(number: u32, place: usize) -> Transitions
-    ensures { said result ≡ no number place }
-{
-    Transitions::Refused(Refusal {
+    Refusal {
         number,
         item: 0,
         place,
+    }
+}
+
+// The record at `at`, whose value has `size` bytes, all there.
+fn read_body(list: &[u8], at: usize, size: usize) -> Result<Step, Refusal>
+    requires { at + 3 + size ≤ length list.now }
+    ensures { result ≡ step_of at (body_at list.now at size) }
+{
+    let tag = list[at];
+    if !shape(tag, size) {
+        return Err(refuse(FIELD, at));
+    }
+    if !in_order(list, tag, size, at + 3) {
+        return Err(refuse(ORDER, at));
+    }
+    Ok(Step {
+        next: at + 3 + size,
+        intervals: count(list, tag, size, at + 3),
     })
 }
 
+fn read_record(list: &[u8], at: usize) -> Result<Step, Refusal>
+    requires { at < length list.now }
+    ensures { result ≡ step_of at (record_at list.now at) }
+{
+    let left = list.len() - at;
+    if left < 3 {
+        return Err(refuse(SHORT, at));
+    }
+    let size = size_at(list, at + 1);
+    if left - 3 < size {
+        return Err(refuse(SHORT, at));
+    }
+    read_body(list, at, size)
+}
+
 // How many transitions a list has, and how many intervals in all. A record is judged whole before the limits are.
-pub fn read_transitions(list: &[u8]) -> Transitions
+pub fn read_transitions(list: &[u8]) -> Result<Transitions, Refusal>
     ensures { said result ≡ counted (parse list.now) }
 {
     let mut left = MAX_TRANSITIONS;
     let mut at: usize = 0;
     let mut used: usize = 0;
     while at < list.len() {
-        match read_record(list, at) {
-            Step::Good { next, intervals } => {
-                if left == 0 {
-                    return refuse(LIMIT, at);
-                }
-                if MAX_INTERVALS - used < intervals {
-                    return refuse(LIMIT, at);
-                }
-                used += intervals;
-                left -= 1;
-                at = next;
-            }
-            Step::Bad(n) => {
-                return refuse(n, at);
-            }
+        let step = read_record(list, at)?;
+        if left == 0 {
+            return Err(refuse(LIMIT, at));
         }
+        if MAX_INTERVALS - used < step.intervals {
+            return Err(refuse(LIMIT, at));
+        }
+        used += step.intervals;
+        left -= 1;
+        at = step.next;
     }
-    Transitions::Read {
+    Ok(Transitions {
         count: MAX_TRANSITIONS - left,
         intervals: used,
-    }
+    })
 }
 
 // Both ends of every interval, the low and the high + 1, in the order of the records. Refused: every number of the buffer is 0.
 // Accepted: twice as many numbers as there are intervals, then zeros.
-pub fn read_intervals(list: &[u8], out: &mut [u32]) -> Transitions
+pub fn read_intervals(list: &[u8], out: &mut [u32]) -> Result<Transitions, Refusal>
     ensures { Writes result (length out.old) out.new (parse_into (length out.old) list.now) }
 {
     buffer::clear(out);
     if out.len() < ENDS {
-        return Transitions::Refused(Refusal {
-            number: ROOM,
-            item: 0,
-            place: 0,
-        });
+        return Err(refuse(ROOM, 0));
     }
-    match read_transitions(list) {
-        Transitions::Read { count, intervals } => {
-            intervals::gather(list, out);
-            Transitions::Read { count, intervals }
-        }
-        Transitions::Refused(r) => Transitions::Refused(r),
-    }
+    let answer = read_transitions(list)?;
+    intervals::gather(list, out);
+    Ok(answer)
 }
