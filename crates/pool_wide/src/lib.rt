@@ -119,7 +119,13 @@ fn put_row(count: u32, row: &[u32], pool: &mut [u32], at: usize) -> usize
 }
 
 // Appends a row behind the others, which end at a place, if there is room for it.
-fn append_row(pool: &mut [u32], rows: usize, end: usize, count: u32, row: &[u32]) -> Result<usize, Refusal>
+fn append_row(
+    pool: &mut [u32],
+    rows: usize,
+    end: usize,
+    count: u32,
+    row: &[u32],
+) -> Result<usize, Refusal>
     requires within { end ≤ length pool.old }
     requires ends { end ≡ after_rows wide pool.old rows 0 }
     requires counts { count ≡ length row.now / 3 }
@@ -133,7 +139,13 @@ fn append_row(pool: &mut [u32], rows: usize, end: usize, count: u32, row: &[u32]
 }
 
 // Finds a good row in a pool that holds its rows, or appends it.
-fn find_or_append(pool: &mut [u32], rows: usize, end: usize, count: u32, row: &[u32]) -> Result<usize, Refusal>
+fn find_or_append(
+    pool: &mut [u32],
+    rows: usize,
+    end: usize,
+    count: u32,
+    row: &[u32],
+) -> Result<usize, Refusal>
     requires within { end ≤ length pool.old }
     requires ends { end ≡ after_rows wide pool.old rows 0 }
     requires counts { count ≡ length row.now / 3 }
