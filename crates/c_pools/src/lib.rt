@@ -7,7 +7,7 @@ ghost use Rattle.pool_rows.specs.Pools as pooling;
 ghost use Rattle.pool_rows.specs.Pools.{ascii, wide};
 ghost use Rattle.c_pools.specs.Answers.{interned_in_c};
 
-use pool_rows::Interned;
+use refusal::Refusal;
 
 // The number of a row in its pool. A refusal of a pool has place 0, which is left out.
 #[repr(C)]
@@ -17,12 +17,12 @@ pub struct CInterned {
     pub number: u32,
 }
 
-fn interned_in_c(interned: Interned) -> CInterned
+fn interned_in_c(interned: Result<usize, Refusal>) -> CInterned
     ensures { result ≡ interned_in_c (pooling.said interned) }
 {
     match interned {
-        Interned::At(i) => CInterned { row: i, number: 0 },
-        Interned::Refused(refusal) => CInterned {
+        Ok(i) => CInterned { row: i, number: 0 },
+        Err(refusal) => CInterned {
             row: 0,
             number: refusal.number,
         },

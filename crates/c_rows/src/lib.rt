@@ -7,6 +7,7 @@ ghost use Rattle.row_build.specs.Answer as building;
 ghost use Rattle.row_build.specs.Answer.{lent, parse_rows};
 ghost use Rattle.c_rows.specs.Answers.{rows_in_c, BuildsInC};
 
+use refusal::Refusal;
 use row_build::Rows;
 
 // How many numbers the wide row and the escape row have.
@@ -20,18 +21,18 @@ pub struct CRows {
     pub escape: usize,
 }
 
-fn rows_in_c(rows: Rows) -> CRows
+fn rows_in_c(rows: Result<Rows, Refusal>) -> CRows
     ensures { result ≡ rows_in_c (building.said rows) }
 {
     match rows {
-        Rows::Built { wide, escape } => CRows {
+        Ok(Rows { wide, escape }) => CRows {
             number: 0,
             item: 0,
             place: 0,
             wide,
             escape,
         },
-        Rows::Refused(refusal) => CRows {
+        Err(refusal) => CRows {
             number: refusal.number,
             item: refusal.item,
             place: refusal.place,

@@ -6,8 +6,8 @@ ghost use Rattle.refusal.specs.Lists.{same_list, first_equal};
 ghost use Rattle.buffer.specs.Over.{Put};
 ghost use Rattle.pool_rows.specs.Pools.{ascii, rows_from, after_rows, append, find_or_append, intern, Interns};
 
-use pool_rows::{Interned, refuse};
-use refusal::{FIELD, NOT_TABLE, ROOM};
+use pool_rows::refuse;
+use refusal::{FIELD, NOT_TABLE, ROOM, Refusal};
 
 // Is the ascii row at a place of the pool this one?
 fn same_at(pool: &[u16], at: usize, row: &[u16]) -> bool
@@ -61,7 +61,7 @@ fn put_row(row: &[u16], pool: &mut [u16], at: usize) -> usize
 }
 
 // Appends a row, if there is room for it.
-fn append_row(pool: &mut [u16], rows: usize, row: &[u16]) -> Interned
+fn append_row(pool: &mut [u16], rows: usize, row: &[u16]) -> Result<usize, Refusal>
     requires within { rows * 128 ≤ length pool.old }
     requires size { length row.now ≡ 128 }
     ensures { Interns result pool.old pool.new (append ascii pool.old rows row.now) }
@@ -70,24 +70,24 @@ fn append_row(pool: &mut [u16], rows: usize, row: &[u16]) -> Interned
         return refuse(ROOM);
     }
     put_row(row, pool, rows * 128);
-    Interned::At(rows)
+    Ok(rows)
 }
 
 // Finds a good row in a pool that holds its rows, or appends it.
-fn find_or_append(pool: &mut [u16], rows: usize, row: &[u16]) -> Interned
+fn find_or_append(pool: &mut [u16], rows: usize, row: &[u16]) -> Result<usize, Refusal>
     requires within { rows * 128 ≤ length pool.old }
     requires size { length row.now ≡ 128 }
     ensures { Interns result pool.old pool.new (find_or_append ascii pool.old rows row.now) }
 {
     let i = first_equal(pool, rows, row);
     if i < rows {
-        return Interned::At(i);
+        return Ok(i);
     }
     append_row(pool, rows, row)
 }
 
 // The number of the first row of 128 targets that is equal, which is appended where there is none.
-pub fn intern_ascii(pool: &mut [u16], rows: usize, row: &[u16]) -> Interned
+pub fn intern_ascii(pool: &mut [u16], rows: usize, row: &[u16]) -> Result<usize, Refusal>
     ensures { Interns result pool.old pool.new (intern ascii pool.old rows row.now) }
 {
     if pool.len() / 128 < rows {

@@ -12,8 +12,8 @@ use Rattle.refusal.specs.Lists.{first_equal}
 use Rattle.refusal.specs.Said.{Said, ok, no_by, no, FIELD, ROOM, NOT-TABLE}
 use Rattle.refusal.specs.Fixed.{NONE}
 use Rattle.buffer.specs.Over.{Put}
-use Rattle.pool_rows.specs.declared.Interned.{Interned}
-use Rattle.pool_rows.specs.declared.Interned.TheVariants.{At, Refused}
+use Rattle.std.specs.Prelude.{Result, Ok, Err}
+use Rattle.refusal.specs.declared.Refusal.{Refusal}
 use Rattle.pool_rows.specs.Pools.{Kind, ascii, wide, standing, rows_from, after_rows, in_threes, good, countable}
 use Rattle.pool_rows.specs.Pools.{append, first_in, find_or_append, intern, said, Interns}
 use Rattle.pool_rows.proofs.Rows.{threes_length}
@@ -30,14 +30,14 @@ ascii_end w n = omega (arith, ascii_after w n 0)
 -- A row that is appended, or has no room
 
 module _ (k : Kind) (w : List ℕ) (n : ℕ) (row : List ℕ) {end : ℕ} (b : end ≡ after_rows k w n 0) where
-  pub append-room : {r : Interned} → length w < end + length (standing k row) → said r ≡ no ROOM 0 → Interns r w w (append k w n row)
+  pub append-room : {r : Result ℕ Refusal} → length w < end + length (standing k row) → said r ≡ no ROOM 0 → Interns r w w (append k w n row)
   unfolding append
   append-room h e =
       let m : length w < after_rows k w n 0 + length (standing k row) = omega arith in
       rw (lt-ltb _ _ m) (record { says = e; leaves = refl })
 
   pub append_put : {new : List ℕ} {r : ℕ} → end + length (standing k row) ≤ length w → Put (standing k row) end w r new →
-      Interns (At n) w new (append k w n row)
+      Interns (Ok n) w new (append k w n row)
   unfolding append
   append_put h p =
       let m : after_rows k w n 0 + length (standing k row) ≤ length w = omega arith in
@@ -46,31 +46,31 @@ module _ (k : Kind) (w : List ℕ) (n : ℕ) (row : List ℕ) {end : ℕ} (b : e
 -- An equal row is found, or none is
 
 module _ (k : Kind) (w : List ℕ) (n : ℕ) (row : List ℕ) {i : ℕ} (e : i ≡ first_in k w n row) where
-  pub find_there : i < n → Interns (At i) w w (find_or_append k w n row)
+  pub find_there : i < n → Interns (Ok i) w w (find_or_append k w n row)
   unfolding find_or_append
   find_there h = rw (← e, lt-ltb i n h) (record { says = refl; leaves = refl })
 
-  pub find_none : {r : Interned} {out : List ℕ} → n ≤ i → Interns r w out (append k w n row) → Interns r w out (find_or_append k w n row)
+  pub find_none : {r : Result ℕ Refusal} {out : List ℕ} → n ≤ i → Interns r w out (append k w n row) → Interns r w out (find_or_append k w n row)
   unfolding find_or_append
   find_none h a = rw (← e, le-ltb i n h) a
 
 -- The order of the refusals
 
 module _ (k : Kind) (w : List ℕ) (n : ℕ) (row : List ℕ) where
-  pub intern-outside : {r : Interned} → length w < after_rows k w n 0 → said r ≡ no NOT-TABLE 0 → Interns r w w (intern k w n row)
+  pub intern-outside : {r : Result ℕ Refusal} → length w < after_rows k w n 0 → said r ≡ no NOT-TABLE 0 → Interns r w w (intern k w n row)
   unfolding intern
   intern-outside h e = rw (lt-ltb (length w) (after_rows k w n 0) h) (record { says = e; leaves = refl })
 
   module _ (h : after_rows k w n 0 ≤ length w) where
-    pub intern_field : {r : Interned} → good k row ≡ false → said r ≡ no FIELD 0 → Interns r w w (intern k w n row)
+    pub intern_field : {r : Result ℕ Refusal} → good k row ≡ false → said r ≡ no FIELD 0 → Interns r w w (intern k w n row)
     unfolding intern
     intern_field g e = rw (le-ltb (length w) (after_rows k w n 0) h, g) (record { says = e; leaves = refl })
 
-    pub intern-many : {r : Interned} → good k row ≡ true → countable k row ≡ false → said r ≡ no ROOM 0 → Interns r w w (intern k w n row)
+    pub intern-many : {r : Result ℕ Refusal} → good k row ≡ true → countable k row ≡ false → said r ≡ no ROOM 0 → Interns r w w (intern k w n row)
     unfolding intern
     intern-many g m e = rw (le-ltb (length w) (after_rows k w n 0) h, g, m) (record { says = e; leaves = refl })
 
-    pub intern_into : {r : Interned} {out : List ℕ} → good k row ≡ true → countable k row ≡ true → Interns r w out (find_or_append k w n row) →
+    pub intern_into : {r : Result ℕ Refusal} {out : List ℕ} → good k row ≡ true → countable k row ≡ true → Interns r w out (find_or_append k w n row) →
         Interns r w out (intern k w n row)
     unfolding intern
     intern_into g m a = rw (le-ltb (length w) (after_rows k w n 0) h, g, m) a
@@ -82,21 +82,21 @@ module _ (w : List ℕ) (n : ℕ) where
   ascii_within h = omega (arith, ascii_end w n)
 
   module _ (row : List ℕ) where
-    pub ascii_room : {r : Interned} → n * 128 ≤ length w → length row ≡ 128 → length w - n * 128 < 128 → said r ≡ no ROOM 0 →
+    pub ascii_room : {r : Result ℕ Refusal} → n * 128 ≤ length w → length row ≡ 128 → length w - n * 128 < 128 → said r ≡ no ROOM 0 →
         Interns r w w (append ascii w n row)
     ascii_room h l t e = append-room ascii w n row (ascii_end w n) (omega arith) e
 
     pub ascii_put : {new : List ℕ} {r : ℕ} → n * 128 ≤ length w → length row ≡ 128 → 128 ≤ length w - n * 128 → Put row (n * 128) w r new →
-        Interns (At n) w new (append ascii w n row)
+        Interns (Ok n) w new (append ascii w n row)
     ascii_put h l t p = append_put ascii w n row (ascii_end w n) (omega arith) p
 
-    pub ascii_outside : {r : Interned} → length w / 128 < n → said r ≡ no NOT-TABLE 0 → Interns r w w (intern ascii w n row)
+    pub ascii_outside : {r : Result ℕ Refusal} → length w / 128 < n → said r ≡ no NOT-TABLE 0 → Interns r w w (intern ascii w n row)
     ascii_outside h e = intern-outside ascii w n row (omega (arith, ascii_end w n)) e
 
-    pub ascii_field : {r : Interned} → n ≤ length w / 128 → (length row ≡ 128 → ⊥) → said r ≡ no FIELD 0 → Interns r w w (intern ascii w n row)
+    pub ascii_field : {r : Result ℕ Refusal} → n ≤ length w / 128 → (length row ≡ 128 → ⊥) → said r ≡ no FIELD 0 → Interns r w w (intern ascii w n row)
     ascii_field h l e = intern_field ascii w n row (omega (arith, ascii_end w n)) (ne_eqb (length row) 128 l) e
 
-    pub ascii_into : {r : Interned} {out : List ℕ} → n ≤ length w / 128 → length row ≡ 128 → Interns r w out (find_or_append ascii w n row) →
+    pub ascii_into : {r : Result ℕ Refusal} {out : List ℕ} → n ≤ length w / 128 → length row ≡ 128 → Interns r w out (find_or_append ascii w n row) →
         Interns r w out (intern ascii w n row)
     ascii_into h l a = intern_into ascii w n row (omega (arith, ascii_end w n)) (eq-eqb (length row) 128 l) refl a
 
@@ -108,11 +108,11 @@ pub ruleset answering-ascii = (rules, find_there, find_none, ascii_within, ascii
 
 module _ (w : List ℕ) (n : ℕ) (row : List ℕ) where
   module _ {end : ℕ} (b : end ≡ after_rows wide w n 0) where
-    pub wide_room : {r : Interned} → end ≤ length w → length w - end ≤ length row → said r ≡ no ROOM 0 → Interns r w w (append wide w n row)
+    pub wide_room : {r : Result ℕ Refusal} → end ≤ length w → length w - end ≤ length row → said r ≡ no ROOM 0 → Interns r w w (append wide w n row)
     wide_room h t e = append-room wide w n row b (omega arith) e
 
     pub wide_put : {new : List ℕ} {x r : ℕ} → x ≡ length row / 3 → end ≤ length w → length row < length w - end → Put (x ∷ row) end w r new →
-        Interns (At n) w new (append wide w n row)
+        Interns (Ok n) w new (append wide w n row)
     wide_put {new} {x} {r} q h t p = append_put wide w n row b (omega arith) (subst (λ (m : ℕ). Put (m ∷ row) end w r new) q p)
 
     pub wide_fits : end ≤ length w → after_rows wide w n 0 ≤ length w
@@ -122,14 +122,14 @@ module _ (w : List ℕ) (n : ℕ) (row : List ℕ) where
     counted : i ≡ first_in wide w n row
     counted = e ∙ ap (λ (m : ℕ). first_equal (m ∷ row) (rows_from wide w n 0)) q
 
-    pub wide_there : i < n → Interns (At i) w w (find_or_append wide w n row)
+    pub wide_there : i < n → Interns (Ok i) w w (find_or_append wide w n row)
     wide_there h = find_there wide w n row counted h
 
-    pub wide_none : {r : Interned} {out : List ℕ} → n ≤ i → Interns r w out (append wide w n row) → Interns r w out (find_or_append wide w n row)
+    pub wide_none : {r : Result ℕ Refusal} {out : List ℕ} → n ≤ i → Interns r w out (append wide w n row) → Interns r w out (find_or_append wide w n row)
     wide_none h a = find_none wide w n row counted h a
 
   module _ {end : ℕ} (b : min (1 + length w) end ≡ min (1 + length w) (after_rows wide w n 0)) where
-    pub wide_outside : {r : Interned} → length w < end → said r ≡ no NOT-TABLE 0 → Interns r w w (intern wide w n row)
+    pub wide_outside : {r : Result ℕ Refusal} → length w < end → said r ≡ no NOT-TABLE 0 → Interns r w w (intern wide w n row)
     wide_outside h e = intern-outside wide w n row (omega arith) e
 
     module _ (h : end ≤ length w) where
@@ -137,13 +137,13 @@ module _ (w : List ℕ) (n : ℕ) (row : List ℕ) where
       wide_ends = omega arith
 
       module _ {t : Bool} (g : t ≡ in_threes row) where
-        pub wide_field : {r : Interned} → t ≡ false → said r ≡ no FIELD 0 → Interns r w w (intern wide w n row)
+        pub wide_field : {r : Result ℕ Refusal} → t ≡ false → said r ≡ no FIELD 0 → Interns r w w (intern wide w n row)
         wide_field f e = intern_field wide w n row (omega arith) (sym g ∙ f) e
 
-        pub wide_many : {r : Interned} → t ≡ true → 4294967295 < length row / 3 → said r ≡ no ROOM 0 → Interns r w w (intern wide w n row)
+        pub wide_many : {r : Result ℕ Refusal} → t ≡ true → 4294967295 < length row / 3 → said r ≡ no ROOM 0 → Interns r w w (intern wide w n row)
         wide_many f m e = intern-many wide w n row (omega arith) (sym g ∙ f) (lt-leb (length row / 3) NONE m) e
 
-        pub wide_into : {r : Interned} {out : List ℕ} → t ≡ true → length row / 3 ≤ 4294967295 → Interns r w out (find_or_append wide w n row) →
+        pub wide_into : {r : Result ℕ Refusal} {out : List ℕ} → t ≡ true → length row / 3 ≤ 4294967295 → Interns r w out (find_or_append wide w n row) →
             Interns r w out (intern wide w n row)
         wide_into f m a = intern_into wide w n row (omega arith) (sym g ∙ f) (le-leb (length row / 3) NONE m) a
 
@@ -155,13 +155,13 @@ pub ruleset appending-wide = (rules, wide_room, wide_put)
 pub ruleset answering-wide = (rules, wide_there, wide_none, wide_fits, wide_outside, wide_ends, wide_field, wide_many, wide_into, wide_length)
 
 -- `said` takes no two answers to one: what it says gives the answer back
-abbrev back : Said → Interned
-back (ok l) = At (get_or l 0 0)
-back (no_by r) = Refused r
+abbrev back : Said → Result ℕ Refusal
+back (ok l) = Ok (get_or l 0 0)
+back (no_by r) = Err r
 
-back-said : (x : Interned) → back (said x) ≡ x
-back-said (At i) = refl
-back-said (Refused r) = refl
+back-said : (x : Result ℕ Refusal) → back (said x) ≡ x
+back-said (Ok i) = refl
+back-said (Err r) = refl
 
-pub said_one : (x y : Interned) → said x ≡ said y → x ≡ y
+pub said_one : (x y : Result ℕ Refusal) → said x ≡ said y → x ≡ y
 said_one x y e = sym (back-said x) ∙ ap back e ∙ back-said y

@@ -1,12 +1,11 @@
 -- Pools of rows (document 01, "Transitions, segments, rows"). w is the pool, n how many rows are stated to stand in it, row the one that is
 -- interned. Assumes nothing.
-use Rattle.std.specs.Prelude.{ℕ, zero, suc, ◌+◌, ◌*◌, ◌/◌, ◌≡◌, Bool, true, false, ◌&&◌, List, [], ◌∷◌, ltb, leb, eqb, length, get_or, take, drop}
+use Rattle.std.specs.Prelude.{ℕ, zero, suc, ◌+◌, ◌*◌, ◌/◌, ◌≡◌, Bool, true, false, ◌&&◌, Result, Ok, Err, List, [], ◌∷◌, ltb, leb, eqb, length, get_or, take, drop}
+use Rattle.refusal.specs.declared.Refusal.{Refusal}
 use Rattle.refusal.specs.Said.{Said, ok, no_by, no, FIELD, ROOM, NOT-TABLE}
 use Rattle.refusal.specs.Lists.{pick, first_equal}
 use Rattle.refusal.specs.Fixed.{NONE}
 use Rattle.buffer.specs.Over.{lay}
-use Rattle.pool_rows.specs.declared.Interned.{Interned}
-use Rattle.pool_rows.specs.declared.Interned.TheVariants.{At, Refused}
 
 -- the two kinds of row
 pub data Kind : Type 0 where
@@ -74,9 +73,9 @@ intern k w n row =
     (pick (good k row) (pick (countable k row) (find_or_append k w n row) (refused ROOM)) (refused FIELD))
 
 -- what the call answers: a row's number, or a refusal
-abbrev pub said : Interned → Said
-said (At i) = ok (i ∷ [])
-said (Refused r) = no_by r
+abbrev pub said : Result ℕ Refusal → Said
+said (Ok i) = ok (i ∷ [])
+said (Err r) = no_by r
 
 abbrev pub outcome_said : Outcome → Said
 outcome_said (found i) = ok (i ∷ [])
@@ -90,6 +89,6 @@ left_in w (appended i row at) = lay at row w
 left_in w (refused k) = w
 
 -- the answer says it, and the pool w holds `new` afterwards
-pub record Interns (r : Interned) (w new : List ℕ) (g : Outcome) : Type 0 where
+pub record Interns (r : Result ℕ Refusal) (w new : List ℕ) (g : Outcome) : Type 0 where
   pub says : said r ≡ outcome_said g
   pub leaves : new ≡ left_in w g

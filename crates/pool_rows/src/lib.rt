@@ -8,18 +8,11 @@ ghost use Rattle.pool_rows.specs.Pools.{said};
 
 use refusal::Refusal;
 
-// The number of a row in its pool, or why there is none.
-#[derive(Clone, Copy)]
-pub enum Interned {
-    At(usize),
-    Refused(Refusal),
-}
-
-// A pool's refusal, whose place is 0.
-pub fn refuse(number: u32) -> Interned
+// A pool's refusal, whose place is 0, in place of the number of a row.
+pub fn refuse(number: u32) -> Result<usize, Refusal>
     ensures { said result ≡ no number 0 }
 {
-    Interned::Refused(Refusal {
+    Err(Refusal {
         number,
         item: 0,
         place: 0,

@@ -6,8 +6,8 @@ ghost use Rattle.refusal.specs.Lists.{same_list, first_equal};
 ghost use Rattle.buffer.specs.Over.{Put};
 ghost use Rattle.pool_rows.specs.Pools.{wide, size_at, rows_from, after_rows, in_threes, append, find_or_append, intern, Interns};
 
-use pool_rows::{Interned, refuse};
-use refusal::{FIELD, NONE, NOT_TABLE, ROOM};
+use pool_rows::refuse;
+use refusal::{FIELD, NONE, NOT_TABLE, ROOM, Refusal};
 
 // The place behind a row of `count` ranges.
 fn row_end(at: usize, count: u32) -> usize
@@ -119,7 +119,13 @@ fn put_row(count: u32, row: &[u32], pool: &mut [u32], at: usize) -> usize
 }
 
 // Appends a row behind the others, which end at a place, if there is room for it.
-fn append_row(pool: &mut [u32], rows: usize, end: usize, count: u32, row: &[u32]) -> Interned
+fn append_row(
+    pool: &mut [u32],
+    rows: usize,
+    end: usize,
+    count: u32,
+    row: &[u32],
+) -> Result<usize, Refusal>
     requires within { end ≤ length pool.old }
     requires ends { end ≡ after_rows wide pool.old rows 0 }
     requires counts { count ≡ length row.now / 3 }
@@ -129,11 +135,17 @@ fn append_row(pool: &mut [u32], rows: usize, end: usize, count: u32, row: &[u32]
         return refuse(ROOM);
     }
     put_row(count, row, pool, end);
-    Interned::At(rows)
+    Ok(rows)
 }
 
 // Finds a good row in a pool that holds its rows, or appends it.
-fn find_or_append(pool: &mut [u32], rows: usize, end: usize, count: u32, row: &[u32]) -> Interned
+fn find_or_append(
+    pool: &mut [u32],
+    rows: usize,
+    end: usize,
+    count: u32,
+    row: &[u32],
+) -> Result<usize, Refusal>
     requires within { end ≤ length pool.old }
     requires ends { end ≡ after_rows wide pool.old rows 0 }
     requires counts { count ≡ length row.now / 3 }
@@ -142,13 +154,13 @@ fn find_or_append(pool: &mut [u32], rows: usize, end: usize, count: u32, row: &[
 {
     let i = first_equal(pool, rows, count, row);
     if i < rows {
-        return Interned::At(i);
+        return Ok(i);
     }
     append_row(pool, rows, end, count, row)
 }
 
 // The number of the first row of ranges that is equal, which is appended where there is none.
-pub fn intern_wide(pool: &mut [u32], rows: usize, row: &[u32]) -> Interned
+pub fn intern_wide(pool: &mut [u32], rows: usize, row: &[u32]) -> Result<usize, Refusal>
     ensures { Interns result pool.old pool.new (intern wide pool.old rows row.now) }
 {
     let end = rows_end(pool, rows);

@@ -6,8 +6,9 @@ use mathlib.Core.Bool.{Bool, true, false, false≢true, ◌&&◌, ◌||◌}
 use mathlib.Core.List.{List, []}
 use native.Mathlib.Omega.{arith}
 use borrow.Author.Rules.{rules}
-use borrow.Author.Tests.{eqb-true, ne_eqb, lt-ltb, le-ltb, ltb-false}
+use borrow.Author.Tests.{eqb-true, lt-ltb, le-ltb, ltb-false}
 use lib.Dec.{eqb, ltb}
+use Rattle.std.specs.Prelude.{Option, Some, None}
 use lib.ListN.{length}
 use Rattle.refusal.specs.declared.Refusal.{Refusal}
 use Rattle.refusal.specs.Said.{refusal_at, ROOM}
@@ -52,13 +53,7 @@ long a w e h = go (ltb a 128) refl (ltb w 6144) refl (ltb e 6144) refl h
     go false i true j z k q = absurd (false≢true (sym q))
     go false i false j true k q = absurd (false≢true (sym q))
 
--- The refusal's number, or 0
-
-by_none : (n : ℕ) (x : Parsed) → n ≡ 0 → refused_by n x ≡ x
-by_none n x e = rw e
-
-by_some : (n : ℕ) (x : Parsed) → (n ≡ 0 → ⊥) → refused_by n x ≡ refused n 0
-by_some n x o = rw (ne_eqb n 0 o)
+-- The refusal's number, if there is one
 
 -- what is not refused was asked for as document 01 says
 module _ (t c : ℕ) (short : Bool) where
@@ -106,13 +101,13 @@ module _ (t c : ℕ) (short : Bool) {s n d p : ℕ} {ns ms ds ps : List ℕ} whe
   none-asked (parsed ts) f h = let says = h.says in let z : ◌≡◌ {A = ℕ} 0 1 = cc in absurd (omega arith)
 
   module _ {a m k : ℕ} where
-    rows_by : (y : Parsed) {j : ℕ} → Placed (Found a m k) s ns n ms d ds p ps y → j ≡ refusal_of (differs m t c) short → with_rows t c short y ≡ refused_by j y
+    rows_by : (y : Parsed) {j : Option ℕ} → Placed (Found a m k) s ns n ms d ds p ps y → j ≡ refusal_of (differs m t c) short → with_rows t c short y ≡ refused_by j y
     unfolding with_rows found_in
     rows_by (refused i q) h e = let says = h.says in let z : ◌≡◌ {A = ℕ} 0 1 = cc in absurd (omega arith)
     rows_by (parsed ts) h e =
         let says = h.says in
         let i : m ≡ length (distinct_of ts) = cc in
-        ap (λ (x : ℕ). refused_by (refusal_of (differs x t c) short) (parsed ts)) (sym i) ∙ ap (λ (x : ℕ). refused_by x (parsed ts)) (sym e)
+        ap (λ (x : ℕ). refused_by (refusal_of (differs x t c) short) (parsed ts)) (sym i) ∙ ap (λ (o : Option ℕ). refused_by o (parsed ts)) (sym e)
 
   module _ {got : Places} (y : Parsed) (h : Placed got s ns n ms d ds p ps y) (f : length (starts (cuts_of (accepted y))) ≤ 2047) where
     said_as : {other : Places} → got ≡ other → Placed other s ns n ms d ds p ps y
@@ -121,10 +116,10 @@ module _ (t c : ℕ) (short : Bool) {s n d p : ℕ} {ns ms ds ps : List ℕ} whe
     pub asked-refused : {r : Refusal} → got ≡ Refused r → Asked t c short (Refused r) s ns n ms d ds p ps y
     asked-refused i = none-asked y f (said_as i)
 
-    module _ {a m k j : ℕ} (i : got ≡ Found a m k) (e : j ≡ refusal_of (differs m t c) short) where
-      pub asked-found : j ≡ 0 → Asked t c short (Found a m k) s ns n ms d ds p ps y
+    module _ {a m k : ℕ} {j : Option ℕ} (i : got ≡ Found a m k) (e : j ≡ refusal_of (differs m t c) short) where
+      pub asked-found : j ≡ None → Asked t c short (Found a m k) s ns n ms d ds p ps y
       asked-found o =
-          let same : with_rows t c short y ≡ y = rows_by y (said_as i) e ∙ by_none j y o in
+          let same : with_rows t c short y ≡ y = rows_by y (said_as i) e ∙ ap (λ (o : Option ℕ). refused_by o y) o in
           let g = said_as i in
           record {
             says = g.says ∙ ap found_in (sym same);
@@ -135,11 +130,11 @@ module _ (t c : ℕ) (short : Bool) {s n d p : ℕ} {ns ms ds ps : List ℕ} whe
             few = f;
           }
 
-      pub asked-none : {ns' ms' ds' : List ℕ} → (j ≡ 0 → ⊥) → Zeroed ns ns' ms ms' ds ds' → length ns ≡ s → length ms ≡ n → length ds ≡ d →
-          Asked t c short (Refused (refusal_at j 0)) s ns' n ms' d ds' p ps y
+      pub asked-none : {q : ℕ} {ns' ms' ds' : List ℕ} → j ≡ Some q → Zeroed ns ns' ms ms' ds ds' → length ns ≡ s → length ms ≡ n → length ds ≡ d →
+          Asked t c short (Refused (refusal_at q 0)) s ns' n ms' d ds' p ps y
       unfolding found_in segments_in masks_in
-      asked-none o z l l' l'' =
-          let none : with_rows t c short y ≡ refused j 0 = rows_by y (said_as i) e ∙ by_some j y o in
+      asked-none {q} o z l l' l'' =
+          let none : with_rows t c short y ≡ refused q 0 = rows_by y (said_as i) e ∙ ap (λ (o : Option ℕ). refused_by o y) o in
           record {
             says = ap found_in (sym none);
             low_high = z.first ∙ ap zeros l ∙ ap (segments_in s) (sym none);

@@ -6,6 +6,7 @@ use mathlib.Core.List.{List, [], ◌∷◌, ◌++◌}
 use native.Mathlib.Omega.{arith}
 use borrow.Author.Rules.{rules}
 use lib.Dec.{eqb}
+use Rattle.std.specs.Prelude.{Result, Ok, Err}
 use lib.ListN.{length, get_or, length-append, length-replicate, get_or-eq_default}
 use Rattle.refusal.specs.declared.Refusal.{Refusal}
 use Rattle.refusal.specs.Said.{Said, ok, no_by}
@@ -30,15 +31,14 @@ use Rattle.list_distinct.proofs.Distincts.{length-places, few_distinct}
 use Rattle.list_distinct.proofs.PlaceAnswers.{roomy_places}
 use Rattle.law_rows.specs.Row.{Row, Sorted, numbers, row_from, row_over, join_to, join, part_from, ascii_part}
 use Rattle.law_rows.specs.Build.{given, target_of, cont_of, row_of, ascii_of, escape_of}
-use Rattle.law_rows.proofs.Built as built
+use Rattle.law_rows.proofs.Built as built_rows
 use Rattle.law_rows.proofs.Searches.{sorted_weaken}
 use Rattle.law_rows.proofs.Parts.{length-values}
 use Rattle.law_lookups.specs.Looks.{goal_at}
 use Rattle.row_goals.specs.Goals.{target_at, goal_of}
 use Rattle.row_goals.specs.Edges.{no_goal, first_of}
 use Rattle.row_build.specs.declared.Rows.{Rows}
-use Rattle.row_build.specs.declared.Rows.TheVariants.{Built, Refused}
-use Rattle.row_build.specs.Answer.{said, Lent, lent, with_rows, parse_rows, counted, ascii_in, wide_in, escape_in, Builds}
+use Rattle.row_build.specs.Answer.{built, said, Lent, lent, with_rows, parse_rows, counted, ascii_in, wide_in, escape_in, Builds}
 use Rattle.row_build.specs.Aimed.{range_of, aimed, living, seen, joined, Spaced, Ready, Filled}
 use Rattle.row_build.specs.Asked.{Cleared, Asked, Fillable, Prepared}
 use Rattle.row_build.proofs.Asking.{long, rows_asked}
@@ -52,8 +52,8 @@ given_place : (other : ℕ) (ds : List (List ℕ)) (vs m : List ℕ) → length 
 given_place other ds vs m h = go (is_zero m) refl
   where
     go : (t : Bool) → is_zero m ≡ t → get_or vs (place_of ds m) other ≡ given other ds vs m
-    go true e = ap (λ (k : ℕ). get_or vs k other) (place_none ds m e) ∙ get_or-eq_default vs other h ∙ sym (built.given-none other ds vs m e)
-    go false e = ap (λ (k : ℕ). get_or vs k other) (place_some ds m e) ∙ sym (built.given_at other ds vs m e)
+    go true e = ap (λ (k : ℕ). get_or vs k other) (place_none ds m e) ∙ get_or-eq_default vs other h ∙ sym (built_rows.given-none other ds vs m e)
+    go false e = ap (λ (k : ℕ). get_or vs k other) (place_some ds m e) ∙ sym (built_rows.given_at other ds vs m e)
 
 -- The segments of a list, with the places of their masks: those that are not left out are the list's row, and all of them ascend
 
@@ -192,7 +192,7 @@ module _ {t c : ℕ} {short : Bool} {s n d p : ℕ} {ns ms ds ps : List ℕ} {y 
   unfolding padded
   sorted goal =
       subst (λ (j : ℕ). Sorted 0 (aimed goal ns ps j 0)) (sym parts.count_is)
-      (sorted_over goal us ns ps (cuts_of us) (zeros (s - length (segments (cuts_of us)))) parts.low_high (built.asc_cuts us))
+      (sorted_over goal us ns ps (cuts_of us) (zeros (s - length (segments (cuts_of us)))) parts.low_high (built_rows.asc_cuts us))
 
   -- a buffer that was cleared takes three numbers for each segment, and three more
   spaced : (j : ℕ) {out : List ℕ} → 6144 ≤ j → out ≡ zeros j → Spaced ns ps count out
@@ -221,7 +221,7 @@ stands n {xs} {ys} e o s h = e ∙ ap (lay 0 xs) o ∙ lay-zeros n xs h ∙ ap (
 
 none : (l : Lent) (targets conts : List ℕ) (x : Parsed) (r : Refusal) {ns ms ds ai ws es : List ℕ} → told (place.Refused r) ≡ found_in x →
     ns ≡ segments_in l.segments x → ms ≡ masks_in matrix l.masks x → ds ≡ masks_in distinct_of l.distinct x →
-    ai ≡ zeros l.ascii → ws ≡ zeros l.wide → es ≡ zeros l.escape → Builds (Refused r) l ns ms ds ai ws es targets conts x
+    ai ≡ zeros l.ascii → ws ≡ zeros l.wide → es ≡ zeros l.escape → Builds (Err r) l ns ms ds ai ws es targets conts x
 unfolding found_in counted ascii_in wide_in escape_in
 none l targets conts (parsed ts) r says q m o a b c = let f : ◌≡◌ {A = ℕ} 0 1 = cc in absurd (omega arith)
 none l targets conts (refused k p) r says q m o a b c = record { says = says; low_high = q; each = m; once = o; narrow = a; broad = b; escapes = c }
@@ -265,7 +265,7 @@ module _ (w targets conts sg mk ds ai ws es : List ℕ) {got : Places} {sg₁ mk
   x_is = ap₂ (with_rows (length targets) (length conts)) z.says (roomy_places (length sg) (length mk) (length ds) w)
 
   pub build_refused : {r : Refusal} → got ≡ place.Refused r →
-      Builds (Refused r) (lent sg mk ds ai ws es) sg₁ mk₁ ds₁ ai₁ ws₁ es₁ targets conts (parse_rows (lent sg mk ds ai ws es) w targets conts)
+      Builds (Err r) (lent sg mk ds ai ws es) sg₁ mk₁ ds₁ ai₁ ws₁ es₁ targets conts (parse_rows (lent sg mk ds ai ws es) w targets conts)
   build_refused {r} i =
       none l targets conts x r (ap told (sym i) ∙ h.says ∙ ap found_in x_is) (h.low_high ∙ ap (segments_in (length sg)) x_is)
       (h.each ∙ ap (masks_in matrix (length mk)) x_is)
@@ -310,7 +310,7 @@ module _ (w targets conts sg mk ds ai ws es : List ℕ) {got : Places} {sg₁ mk
 
     joined-row : (e : Bool) → joined e targets conts sg₁ ps c ≡ join (part_from (first_of e) (row_of_lem e))
     joined-row e =
-        joined_is e (aimed (goal_of e targets conts) sg₁ ps c 0) (row_of_lem e) (built.sorted_row ts (no_goal e) (goal e))
+        joined_is e (aimed (goal_of e targets conts) sg₁ ps c 0) (row_of_lem e) (built_rows.sorted_row ts (no_goal e) (goal e))
         (sorted h i (goal_of e targets conts)) (row_is e)
 
     asciis : ascii_part (aimed (target_at targets) sg₁ ps c 0) ≡ ascii_of ts targets
@@ -320,7 +320,7 @@ module _ (w targets conts sg mk ds ai ws es : List ℕ) {got : Places} {sg₁ mk
     escapes = joined-row true ∙ ap join (part_all (row_of_lem true))
 
     pub build_done : {r : Rows} {ai₂ ws₂ es₂ : List ℕ} → Filled r targets conts sg₁ ps c ai₁ ai₂ ws₁ ws₂ es₁ es₂ →
-        Builds r (lent sg mk ds ai ws es) sg₁ mk₁ ds₁ ai₂ ws₂ es₂ targets conts (parse_rows (lent sg mk ds ai ws es) w targets conts)
+        Builds (Ok r) (lent sg mk ds ai ws es) sg₁ mk₁ ds₁ ai₂ ws₂ es₂ targets conts (parse_rows (lent sg mk ds ai ws es) w targets conts)
     unfolding segments_in masks_in counted ascii_in wide_in escape_in
     build_done f =
         let fit-a : length (ascii_part (aimed (target_at targets) sg₁ ps c 0)) ≤ length ai =
@@ -344,13 +344,13 @@ pub ruleset building = (rules, build_refused, build_ready, build_done)
 
 -- `said` takes no two answers to one: what it says gives the answer back
 
-abbrev back : Said → Rows
-back (ok l) = Built (get_or l 0 0) (get_or l 1 0)
-back (no_by r) = Refused r
+abbrev back : Said → Result Rows Refusal
+back (ok l) = built (get_or l 0 0) (get_or l 1 0)
+back (no_by r) = Err r
 
-back-said : (x : Rows) → back (said x) ≡ x
-back-said (Built wide escape) = refl
-back-said (Refused r) = refl
+back-said : (x : Result Rows Refusal) → back (said x) ≡ x
+back-said (Ok rows) = refl
+back-said (Err r) = refl
 
-pub said_one : (x y : Rows) → said x ≡ said y → x ≡ y
+pub said_one : (x y : Result Rows Refusal) → said x ≡ said y → x ≡ y
 said_one x y e = sym (back-said x) ∙ ap back e ∙ back-said y

@@ -16,7 +16,6 @@ use Rattle.law_rows.specs.Row.{Row, Sorted, values, numbers, ascii_part}
 use Rattle.law_rows.proofs.Searches.{look_hit, look_gap, look_past, sorted_weaken}
 use Rattle.law_rows.proofs.Parts.{length-values}
 use Rattle.row_goals.specs.Goals.{target_at}
-use Rattle.row_build.specs.declared.Rows.TheVariants.{Built}
 use Rattle.row_build.specs.Aimed.{range_of, aimed, joined, Stretch, targets_of, Ordered, Split, Filled}
 use Rattle.row_build.proofs.Aiming.{aimed_turn, aimed_done, aimed_all}
 
@@ -215,7 +214,7 @@ pub ruleset targeting =
 
 pub rows_filled : (ts cs segs ps : List ℕ) (count : ℕ) {ascii ascii' wide wide' escape escape' : List ℕ} {n m : ℕ} →
     Split ts cs segs ps count ascii ascii' wide n wide' →
-    Put (numbers (joined true ts cs segs ps count)) 0 escape m escape' → Filled (Built n m) ts cs segs ps count ascii ascii' wide wide' escape escape'
+    Put (numbers (joined true ts cs segs ps count)) 0 escape m escape' → Filled (record { wide = n; escape = m }) ts cs segs ps count ascii ascii' wide wide' escape escape'
 rows_filled ts cs segs ps count {n = n} {m = m} s p =
     let a : n ≡ length (numbers (joined false ts cs segs ps count)) = omega (arith, s.broad.next) in
     let b : m ≡ length (numbers (joined true ts cs segs ps count)) = omega (arith, p.next) in

@@ -1,6 +1,6 @@
 -- Rows as the loops of row building meet them, segment by segment: from the segments as numbers, the place of each segment's mask among the distinct masks, and
 -- what was given each place. One definition for both kinds of row, e says which: an escape row, or one of targets. Assumes nothing.
-use Rattle.std.specs.Prelude.{ℕ, zero, suc, ◌+◌, ◌*◌, ◌-◌, ◌≤◌, min, max, ◌≡◌, Bool, true, false, ◌||◌, List, [], ◌∷◌, ◌++◌, eqb, ltb, length, get_or, replicate}
+use Rattle.std.specs.Prelude.{ℕ, zero, suc, ◌+◌, ◌*◌, ◌-◌, ◌≤◌, min, max, ◌≡◌, Bool, true, false, ◌||◌, Ok, List, [], ◌∷◌, ◌++◌, eqb, ltb, length, get_or, replicate}
 use Rattle.refusal.specs.Fixed.{DEAD-STATE}
 use Rattle.refusal.specs.Said.{ok}
 use Rattle.refusal.specs.Lists.{pick}
@@ -73,7 +73,7 @@ pub record Split (targets conts segments places : List ℕ) (count : ℕ) (ascii
 
 -- .. and the escape row in front of a third
 pub record Filled (r : Rows) (targets conts segments places : List ℕ) (count : ℕ) (ascii ascii' wide wide' escape escape' : List ℕ) : Type 0 where
-  pub says : said r ≡
+  pub says : said (Ok r) ≡
       ok (length (numbers (joined false targets conts segments places count)) ∷ length (numbers (joined true targets conts segments places count)) ∷ [])
   pub narrow : ascii' ≡ lay 0 (ascii_part (aimed (target_at targets) segments places count 0)) ascii
   pub broad : wide' ≡ lay 0 (numbers (joined false targets conts segments places count)) wide

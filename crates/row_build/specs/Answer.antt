@@ -1,8 +1,8 @@
 -- What the row call answers, and leaves in the six lent buffers (document 01, "Transitions, segments, rows"). w is the list's bytes, x the list read,
 -- `targets` and `conts` are what the caller gave each of its distinct masks. Assumes nothing.
-use Rattle.std.specs.Prelude.{ℕ, ◌≡◌, Bool, ◌||◌, List, [], ◌∷◌, length, ltb, eqb}
+use Rattle.std.specs.Prelude.{ℕ, ◌≡◌, Bool, ◌||◌, Option, Some, None, Result, Ok, Err, List, [], ◌∷◌, length, ltb}
+use Rattle.refusal.specs.declared.Refusal.{Refusal}
 use Rattle.refusal.specs.Said.{Said, ok, no_by, no}
-use Rattle.refusal.specs.Lists.{pick}
 use Rattle.buffer.specs.Over.{zeros, padded}
 use Rattle.list_transitions.specs.Read.{Parsed, parsed, refused}
 use Rattle.list_segments.specs.Answer.{segments_in}
@@ -12,12 +12,15 @@ use Rattle.law_rows.specs.Row.{numbers}
 use Rattle.law_rows.specs.Build.{ascii_of, wide_of, escape_of}
 use Rattle.row_goals.specs.Goals.{differs, refusal_of}
 use Rattle.row_build.specs.declared.Rows.{Rows}
-use Rattle.row_build.specs.declared.Rows.TheVariants.{Built, Refused}
 
--- how many numbers the wide row and the escape row take, or a refusal
-abbrev pub said : Rows → Said
-said (Built wide escape) = ok (wide ∷ escape ∷ [])
-said (Refused r) = no_by r
+-- how many numbers the wide row and the escape row take
+abbrev pub built : ℕ → ℕ → Result Rows Refusal
+built wide escape = Ok (record { wide = wide; escape = escape })
+
+-- .. or a refusal
+abbrev pub said : Result Rows Refusal → Said
+said (Ok rows) = ok (rows.wide ∷ rows.escape ∷ [])
+said (Err r) = no_by r
 
 -- how many numbers each lent buffer has
 pub record Lent : Type 0 where
@@ -36,9 +39,10 @@ lent segments masks distinct ascii wide escape =
 abbrev pub too_short : ℕ → ℕ → ℕ → Bool
 too_short ascii wide escape = ltb ascii 128 || ltb wide 6144 || ltb escape 6144
 
--- a list that a number refuses, or 0
-abbrev pub refused_by : ℕ → Parsed → Parsed
-refused_by n x = pick (eqb n 0) x (refused n 0)
+-- a list that a number refuses, if there is one
+abbrev pub refused_by : Option ℕ → Parsed → Parsed
+refused_by None x = x
+refused_by (Some n) x = refused n 0
 
 -- behind the records: TARGETS for so many targets and continuations, ROOM for the rows
 unfoldable pub with_rows : ℕ → ℕ → Bool → Parsed → Parsed
@@ -70,7 +74,7 @@ escape_in n targets conts (parsed ts) = padded n (numbers (escape_of ts targets 
 escape_in n targets conts (refused k p) = zeros n
 
 -- the answer says it, and the six buffers hold it
-pub record Builds (r : Rows) (l : Lent) (segments masks distinct ascii wide escape : List ℕ) (targets conts : List ℕ) (x : Parsed) : Type 0 where
+pub record Builds (r : Result Rows Refusal) (l : Lent) (segments masks distinct ascii wide escape : List ℕ) (targets conts : List ℕ) (x : Parsed) : Type 0 where
   pub says : said r ≡ counted targets conts x
   pub low_high : segments ≡ segments_in l.segments x
   pub each : masks ≡ masks_in matrix l.masks x

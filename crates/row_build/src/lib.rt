@@ -224,11 +224,11 @@ fn merge_escape_ranges(
     )
 }
 
-// How many numbers the wide row and the escape row take, or why there are none.
+// How many numbers the wide row and the escape row take.
 #[derive(Clone, Copy)]
-pub enum Rows {
-    Built { wide: usize, escape: usize },
-    Refused(Refusal),
+pub struct Rows {
+    pub wide: usize,
+    pub escape: usize,
 }
 
 fn fill_rows(
@@ -245,9 +245,9 @@ fn fill_rows(
     ensures { Filled result targets.now continuations.now segments.now places.now count
         ascii.old ascii.new wide.old wide.new escape.old escape.new }
 {
-    let n = split_rows(segments, places, count, targets, continuations, ascii, wide);
-    let m = merge_escape_ranges(segments, places, count, targets, continuations, escape);
-    Rows::Built { wide: n, escape: m }
+    let wide = split_rows(segments, places, count, targets, continuations, ascii, wide);
+    let escape = merge_escape_ranges(segments, places, count, targets, continuations, escape);
+    Rows { wide, escape }
 }
 
 fn too_short(ascii: usize, wide: usize, escape: usize) -> bool
@@ -316,8 +316,7 @@ fn place_for_rows(
             masks: d,
             words,
         } => {
-            let number = row_goals::refusal_for(d, targets, continuations, short);
-            if number != 0 {
+            if let Some(number) = row_goals::refusal_for(d, targets, continuations, short) {
                 clear_masks(segments, masks, distinct);
                 return Places::Refused(Refusal {
                     number,
@@ -379,7 +378,7 @@ pub fn build_rows(
     ascii: &mut [u16],
     wide: &mut [u32],
     escape: &mut [u32],
-) -> Rows
+) -> Result<Rows, Refusal>
     ensures { Builds result
         (lent segments.old masks.old distinct.old ascii.old wide.old escape.old)
         segments.new masks.new distinct.new ascii.new wide.new escape.new
@@ -404,7 +403,7 @@ pub fn build_rows(
             segments: count,
             masks: _,
             words: _,
-        } => fill_rows(
+        } => Ok(fill_rows(
             segments,
             &places,
             count,
@@ -413,7 +412,7 @@ pub fn build_rows(
             ascii,
             wide,
             escape,
-        ),
-        Places::Refused(r) => Rows::Refused(r),
+        )),
+        Places::Refused(r) => Err(r),
     }
 }

@@ -7,6 +7,7 @@ use native.Mathlib.Nat.{not-suc-le-zero}
 use native.Mathlib.Omega.{arith}
 use borrow.Author.Rules.{rules}
 use borrow.Author.Tests.{eq-eqb, ne_eqb}
+use Rattle.std.specs.Prelude.{Option}
 use lib.ListN.{length, get_or, get_or-eq_default}
 use Rattle.refusal.specs.Fixed.{NONE, DEAD-STATE}
 use Rattle.row_goals.specs.Goals.{target_at, goal_of, differs, refusal_of}
@@ -51,7 +52,7 @@ module _ (d t c : ℕ) where
   pub as_many : t ≡ d → c ≡ d → false ≡ differs d t c
   as_many x y = rw (eq-eqb t d x, eq-eqb c d y)
 
-  pub refusal_is : (s : Bool) {o : Bool} {r : ℕ} → o ≡ differs d t c → r ≡ refusal_of o s → r ≡ refusal_of (differs d t c) s
+  pub refusal_is : (s : Bool) {o : Bool} {r : Option ℕ} → o ≡ differs d t c → r ≡ refusal_of o s → r ≡ refusal_of (differs d t c) s
   refusal_is s b n = n ∙ ap (λ (o : Bool). refusal_of o s) b
 
 pub ruleset counting = (rules, other_targets, other_conts, as_many, refusal_is)

@@ -1,6 +1,6 @@
 -- What row building asks of one segment or of one call. One definition for both kinds of row, e says which: an escape row, or one of targets. Assumes
 -- nothing.
-use Rattle.std.specs.Prelude.{ℕ, Bool, true, false, ◌&&◌, List, eqb, get_or}
+use Rattle.std.specs.Prelude.{ℕ, Bool, true, false, ◌&&◌, Option, Some, None, List, eqb, get_or}
 use Rattle.refusal.specs.Said.{ROOM, TARGETS}
 use Rattle.refusal.specs.Lists.{pick}
 use Rattle.refusal.specs.Fixed.{NONE, DEAD-STATE}
@@ -17,6 +17,6 @@ goal_of e targets conts k = pick e (pick (eqb (target_at targets k) DEAD-STATE) 
 abbrev pub differs : ℕ → ℕ → ℕ → Bool
 differs d targets conts = pick (eqb targets d && eqb conts d) false true
 
--- "TARGETS, ROOM for these": the refusal's number, or 0
-abbrev pub refusal_of : Bool → Bool → ℕ
-refusal_of other short = pick other TARGETS (pick short ROOM 0)
+-- "TARGETS, ROOM for these": the refusal's number, if there is one
+abbrev pub refusal_of : Bool → Bool → Option ℕ
+refusal_of other short = pick other (Some TARGETS) (pick short (Some ROOM) None)

@@ -101,20 +101,20 @@ fn differ(d: usize, targets: usize, continuations: usize) -> bool
     false
 }
 
-fn refusal_of(other: bool, short: bool) -> u32
+fn refusal_of(other: bool, short: bool) -> Option<u32>
     ensures { result ≡ refusal_of other short }
 {
     if other {
-        return TARGETS;
+        return Some(TARGETS);
     }
     if short {
-        return ROOM;
+        return Some(ROOM);
     }
-    0
+    None
 }
 
-// What stands in the way of the rows once the records are read. 0 if nothing does.
-pub fn refusal_for(d: usize, targets: usize, continuations: usize, short: bool) -> u32
+// What stands in the way of the rows once the records are read.
+pub fn refusal_for(d: usize, targets: usize, continuations: usize, short: bool) -> Option<u32>
     ensures { result ≡ refusal_of (differs d targets continuations) short }
 {
     refusal_of(differ(d, targets, continuations), short)
