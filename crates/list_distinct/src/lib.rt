@@ -174,7 +174,7 @@ fn put_distinct(
 fn clear_both(words: &mut [u64], numbers: &mut [u32])
     ensures { Zeroed words.old words.new numbers.old numbers.new }
 {
-    buffer::clear_words(words);
+    buffer::clear(words);
     buffer::clear(numbers);
 }
 

@@ -426,7 +426,7 @@ pub fn segment_mask_matrix(
     ensures { Matrix result (length segments.old) segments.new (length masks.old) masks.new
         (parse_masks (length segments.old) (length masks.old) list.now) }
 {
-    buffer::clear_words(masks);
+    buffer::clear(masks);
     if masks.len() < WORDS {
         buffer::clear(segments);
         return Err(Refusal {

@@ -288,8 +288,8 @@ fn clear_masks(segments: &mut [u32], masks: &mut [u64], distinct: &mut [u64])
         distinct.old distinct.new }
 {
     buffer::clear(segments);
-    buffer::clear_words(masks);
-    buffer::clear_words(distinct);
+    buffer::clear(masks);
+    buffer::clear(distinct);
 }
 
 // The segments of a list, their masks, the distinct ones and the places of these, unless the list is refused, or it has another number of distinct masks than
