@@ -1,5 +1,5 @@
 -- A section behind another, and the whole, by the tests that the code makes. `got` is what a section's reader answered. Assumes nothing.
-use Prim.Native.Nat.{ℕ}
+use Prim.Native.Nat.{ℕ, ◌<◌, ◌≤◌}
 use mathlib.Core.Path.{◌≡◌, refl, sym, ap, ◌∙◌}
 use mathlib.Core.List.{List}
 use lib.Dec.{eqb}
@@ -7,43 +7,28 @@ use lib.ListN.{length, get_or}
 use borrow.Author.Rules.{rules}
 use borrow.Author.Tests.{eq-eqb, ne_eqb, lt-ltb, le-ltb}
 use Rattle.refusal.specs.declared.Refusal.{Refusal}
-use Rattle.refusal.specs.Said.{Said, ok, no_by, SHORT, TAG}
+use Rattle.refusal.specs.Said.{Said, ok, no_by, SHORT, TAG, LEFT}
 use Rattle.refusal.specs.Fixed.{tag}
 use Rattle.refusal.specs.Lists.{pick}
 use Rattle.std.specs.Prelude.{Ok, Err}
-use Rattle.word_reader.specs.declared.Sections.{Sections}
 use Rattle.word_reader.specs.Parse.{Place, and_then, section}
-use Rattle.word_reader.specs.Records.{mode_at, state_at, run_at, ascii_at, wide_at, accept_at, escape_at, continuation_at}
 use Rattle.std.specs.Prelude.{Ok, Err}
-use Rattle.word_layout.specs.Layout.{Layout, said, unfound, place_of, sections_from, sections_in, at_end, closed, after_continuations, layout_of}
+use Rattle.word_layout.specs.Layout.{Layout, said, unfound, place_of, sections_in, closed, layout_of}
+use Rattle.word_layout.specs.Layout.{after_modes, after_states, after_runs, after_ascii, after_wide, after_accepts, after_escapes, after_continuations}
 
--- the section before was read, or refused
-pub goes : (k : ℕ → Place) {p : ℕ} {at r : Place} → at ≡ Ok p → r ≡ k p → r ≡ and_then at k
+-- the one before ended at a place, or was refused
+module _ (w : List ℕ) (f : List ℕ → ℕ → Place) {at : ℕ} {x : Place} (e : x ≡ Ok at) where
+  pub on : {p : ℕ} → Ok p ≡ section f w at → and_then x (section f w) ≡ Ok p
+  unfolding and_then
+  on g = let h = sym g in rw e h
+
+  pub off : {r : Refusal} → Err r ≡ section f w at → and_then x (section f w) ≡ Err r
+  unfolding and_then
+  off g = let h = sym g in rw e h
+
+pub past : (k : ℕ → Place) {r : Refusal} {x : Place} → x ≡ Err r → and_then x k ≡ Err r
 unfolding and_then
-goes k e h = h ∙ (rw e)
-
-pub halts : (k : ℕ → Place) {r : Refusal} {at : Place} → at ≡ Err r → Err r ≡ and_then at k
-unfolding and_then
-halts k e = rw e
-
-pub is_place : {p : ℕ} {at : Place} → at ≡ Ok p → p ≡ place_of at
-unfolding place_of
-is_place e = rw e
-
-pub no_place : {r : Refusal} {at : Place} → at ≡ Err r → 0 ≡ place_of at
-unfolding place_of
-no_place e = rw e
-
--- what a section behind another is left with
-pub ruleset chain = (rules, goes, halts, is_place, no_place)
-
--- the places of all
-pub placed : (s r a v x e c : Place) {i j k l m n o : ℕ} → i ≡ place_of s → j ≡ place_of r → k ≡ place_of a → l ≡ place_of v
-    → m ≡ place_of x → n ≡ place_of e → o ≡ place_of c
-    → record { modes = 1; states = i; runs = j; ascii = k; wide = l; accepts = m; escapes = n; continuations = o } ≡ sections_from s r a v x e c
-placed s r a v x e c i j k l m n o = rw (i, j, k, l, m, n, o)
-
-pub ruleset placing = (rules, placed)
+past k e = rw e refl
 
 pub layout_form : (w : List ℕ)
     → layout_of w ≡ pick (eqb (length w) 0) (unfound SHORT 0) (pick (eqb (get_or w 0 0) tag) (closed w (sections_in w) (after_continuations w)) (unfound TAG 0))
@@ -54,20 +39,23 @@ layout_form w = refl
 pub ruleset ends = (rules, layout_form, eq-eqb, ne_eqb, lt-ltb, le-ltb)
 
 -- all eight, read one behind the other
-module _ (w : List ℕ) {s r a v x e c o : Place}
-    (h₁ : s ≡ and_then (Ok 1) (section mode_at w)) (h₂ : r ≡ and_then s (section state_at w)) (h₃ : a ≡ and_then r (section run_at w))
-    (h₄ : v ≡ and_then a (section ascii_at w)) (h₅ : x ≡ and_then v (section wide_at w)) (h₆ : e ≡ and_then x (section accept_at w))
-    (h₇ : c ≡ and_then e (section escape_at w)) (h₈ : o ≡ and_then c (section continuation_at w)) where
-  pub all_read : {end : ℕ} {f : Sections} {got : Layout} → o ≡ Ok end → f ≡ sections_from s r a v x e c → got ≡ at_end w f end
-      → got ≡ closed w (sections_in w) (after_continuations w)
+module _ (w : List ℕ) where
+  pub shut : {r : Refusal} → after_continuations w ≡ Err r → Err r ≡ closed w (sections_in w) (after_continuations w)
   unfolding closed
-  all_read g f l = l ∙ (rw (f, ← h₁, ← h₂, ← h₃, ← h₄, ← h₅, ← h₆, ← h₇, ← h₈, g))
+  shut e = rw e
 
-  pub not_read : {q : Refusal} → o ≡ Err q → Err q ≡ closed w (sections_in w) (after_continuations w)
+  pub more_left : {end : ℕ} → after_continuations w ≡ Ok end → end < length w → unfound LEFT end ≡ closed w (sections_in w) (after_continuations w)
   unfolding closed
-  not_read g = rw (← h₁, ← h₂, ← h₃, ← h₄, ← h₅, ← h₆, ← h₇, ← h₈, g)
+  more_left e h = rw (e, lt-ltb _ _ h)
 
-pub ruleset sections = (rules, all_read, not_read)
+  pub all_read : {s r a v x e c end : ℕ} → after_modes w ≡ Ok s → after_states w ≡ Ok r → after_runs w ≡ Ok a → after_ascii w ≡ Ok v
+      → after_wide w ≡ Ok x → after_accepts w ≡ Ok e → after_escapes w ≡ Ok c → after_continuations w ≡ Ok end → length w ≤ end
+      → Ok (record { modes = 1; states = s; runs = r; ascii = a; wide = v; accepts = x; escapes = e; continuations = c })
+      ≡ closed w (sections_in w) (after_continuations w)
+  unfolding closed place_of
+  all_read h₁ h₂ h₃ h₄ h₅ h₆ h₇ h₈ l = rw (h₈, le-ltb _ _ l, h₇, h₆, h₅, h₄, h₃, h₂, h₁)
+
+pub ruleset sections = (rules, more_left, all_read)
 
 -- `said` takes no two answers to one: what it says gives the answer back
 abbrev back : Said → Layout

@@ -61,25 +61,30 @@ uncounted f w at e h = e ∙ sym (none w at (λ n. many (f w) n (at + 1)) h)
 -- what the reader of a section is left with
 pub ruleset counting = (rules, counted, uncounted)
 
--- The law of every loop over records. Its invariant: the records that are left, read from here, give what all of them give.
+-- The law of the loop over n records, of which i are behind: those that are left, read from here, give what all of them give.
 module _ (f : ℕ → Place) where
   -- a record was read: go on behind it
-  pub turn : {left here next : ℕ} {got all : Place} → 0 < left → got ≡ f here → got ≡ Ok next → many f left here ≡ all → many f (left - 1) next ≡ all
+  pub turn : (n i : ℕ) {here next : ℕ} {got all : Place} → i < n → got ≡ f here → got ≡ Ok next → many f (n - i) here ≡ all → many f (n - (i + 1)) next ≡ all
   unfolding many and_then
-  turn {left = zero} h g e i = absurd (not-suc-le-zero h)
-  turn {left = suc n} h g e i = rw sub-one (rw (← g, e) at i)
+  turn n i {here} {next} {got} {all} h g e k = go (n - i) refl
+    where
+      go : (l : ℕ) → n - i ≡ l → many f (n - (i + 1)) next ≡ all
+      go zero p = absurd (omega arith)
+      go (suc l) p = let q : n - (i + 1) ≡ l = omega arith in rw q (rw (← g, e) at (rw p at k))
 
   -- a record was refused: so are all
-  pub stop : {left here : ℕ} {r : Refusal} {got all : Place} → 0 < left → got ≡ f here → got ≡ Err r → many f left here ≡ all → Err r ≡ all
+  pub stop : (n i : ℕ) {here : ℕ} {r : Refusal} {got all : Place} → i < n → got ≡ f here → got ≡ Err r → many f (n - i) here ≡ all → Err r ≡ all
   unfolding many and_then
-  stop {left = zero} h g e i = absurd (not-suc-le-zero h)
-  stop {left = suc n} h g e i = rw (← g, e) at i
+  stop n i {here} {r} {got} {all} h g e k = go (n - i) refl
+    where
+      go : (l : ℕ) → n - i ≡ l → Err r ≡ all
+      go zero p = absurd (omega arith)
+      go (suc l) p = rw (← g, e) at (rw p at k)
 
   -- none is left
-  pub done : {left here : ℕ} {all : Place} → left ≤ 0 → many f left here ≡ all → Ok here ≡ all
+  pub done : (n i : ℕ) {here : ℕ} {all : Place} → n ≤ i → many f (n - i) here ≡ all → Ok here ≡ all
   unfolding many
-  done {left = zero} h i = i
-  done {left = suc n} h i = absurd (not-suc-le-zero h)
+  done n i h k = let q : n - i ≡ 0 = omega arith in rw q at k
 
 -- what a loop over records is left with
 pub ruleset loop = (rules, turn, stop, done)

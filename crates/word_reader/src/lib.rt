@@ -3,9 +3,9 @@
 // the readers stand in `word_records`.
 #![tactic(auto)]
 
-ghost use Rattle.std.specs.Prelude.{◌≡◌, ◌-◌, length};
+ghost use Rattle.std.specs.Prelude.{◌≡◌, ℕ, ◌-◌, List, length};
 ghost use Rattle.refusal.specs.Said.{FIELD};
-ghost use Rattle.word_reader.specs.Parse.{short, refused};
+ghost use Rattle.word_reader.specs.Parse.{Place, short, refused, many, section};
 
 use refusal::{FIELD, Refusal, SHORT};
 
@@ -55,4 +55,38 @@ pub fn left_from(words: &[u32], at: usize) -> usize
         return 0;
     }
     words.len() - at
+}
+
+// A kind of record, with its reader: where reading goes on behind the record at `at`, or why it does not.
+pub trait Record {
+    ghost record_at: { Self → List ℕ → ℕ → Place };
+
+    fn read(&self, words: &[u32], at: usize) -> Result<usize, Refusal>
+        ensures { result ≡ record_at self.now words.now at };
+}
+
+// `count` records from `at`.
+pub fn read_many<R: Record>(
+    kind: &R,
+    words: &[u32],
+    count: u32,
+    at: usize,
+) -> Result<usize, Refusal>
+    ensures { result ≡ many (R.record_at kind.now words.now) count at }
+{
+    let mut here = at;
+    for _ in 0..count {
+        here = kind.read(words, here)?;
+    }
+    Ok(here)
+}
+
+// A section: the count stands at `at`, and so many records behind it.
+pub fn read_section<R: Record>(kind: &R, words: &[u32], at: usize) -> Result<usize, Refusal>
+    ensures { result ≡ section (R.record_at kind.now) words.now at }
+{
+    if words.len() <= at {
+        return short(words);
+    }
+    read_many(kind, words, words[at], at + 1)
 }

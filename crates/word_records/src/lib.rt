@@ -6,11 +6,10 @@
 ghost use Rattle.std.specs.Prelude.{◌≡◌};
 ghost use Rattle.word_reader.specs.Records.{mode_at, state_at, run_at, ascii_at, range_at, wide_at, triple_at, accept_at};
 ghost use Rattle.word_reader.specs.Records.{escape_at, config_at, context_at, continuation_at};
-ghost use Rattle.word_reader.specs.Parse.{many, section};
 
 use refusal::{NONE, Refusal};
 use run_shape::Answered;
-use word_reader::MAX_TARGET;
+use word_reader::{MAX_TARGET, Record};
 
 // A mode: start state, or NONE.
 pub fn read_mode(words: &[u32], at: usize) -> Result<usize, Refusal>
@@ -73,77 +72,42 @@ pub fn read_ascii_row(words: &[u32], at: usize) -> Result<usize, Refusal>
 }
 
 // A wide range: low, high, target.
-fn read_range(words: &[u32], at: usize) -> Result<usize, Refusal>
-    ensures { result ≡ range_at words.now at }
-{
-    if word_reader::left_from(words, at) < 3 {
-        return word_reader::short(words);
-    }
-    let target = words[at + 2];
-    if MAX_TARGET < target {
-        return word_reader::field(at + 2);
-    }
-    Ok(at + 3)
-}
+struct Range;
 
-// `count` wide ranges from `at`.
-fn ranges(words: &[u32], count: u32, at: usize) -> Result<usize, Refusal>
-    ensures { result ≡ many (range_at words.now) count at }
-{
-    let mut left = count;
-    let mut here = at;
-    while 0 < left {
-        match read_range(words, here) {
-            Ok(p) => {
-                here = p;
-                left -= 1;
-            }
-            Err(r) => {
-                return Err(r);
-            }
+impl Record for Range {
+    ghost record_at = { λ k. range_at };
+
+    fn read(&self, words: &[u32], at: usize) -> Result<usize, Refusal> {
+        if word_reader::left_from(words, at) < 3 {
+            return word_reader::short(words);
         }
+        let target = words[at + 2];
+        if MAX_TARGET < target {
+            return word_reader::field(at + 2);
+        }
+        Ok(at + 3)
     }
-    Ok(here)
 }
 
 // A wide row: length, then its ranges.
 pub fn read_wide_row(words: &[u32], at: usize) -> Result<usize, Refusal>
     ensures { result ≡ wide_at words.now at }
 {
-    if words.len() <= at {
-        return word_reader::short(words);
-    }
-    ranges(words, words[at], at + 1)
+    word_reader::read_section(&Range, words, at)
 }
 
 // Three words: an action, or a range of an escape row.
-fn read_triple(words: &[u32], at: usize) -> Result<usize, Refusal>
-    ensures { result ≡ triple_at words.now at }
-{
-    if word_reader::left_from(words, at) < 3 {
-        return word_reader::short(words);
-    }
-    Ok(at + 3)
-}
+struct Triple;
 
-// `count` triples from `at`.
-fn triples(words: &[u32], count: u32, at: usize) -> Result<usize, Refusal>
-    ensures { result ≡ many (triple_at words.now) count at }
-{
-    let mut left = count;
-    let mut here = at;
-    while 0 < left {
-        match read_triple(words, here) {
-            Ok(p) => {
-                here = p;
-                left -= 1;
-            }
-            Err(r) => {
-                return Err(r);
-            }
+impl Record for Triple {
+    ghost record_at = { λ k. triple_at };
+
+    fn read(&self, words: &[u32], at: usize) -> Result<usize, Refusal> {
+        if word_reader::left_from(words, at) < 3 {
+            return word_reader::short(words);
         }
+        Ok(at + 3)
     }
-    Ok(here)
 }
 
 // An accept: rule, consumed-EOF flag, action count, actions.
@@ -153,7 +117,7 @@ pub fn read_accept(words: &[u32], at: usize) -> Result<usize, Refusal>
     if word_reader::left_from(words, at) < 3 {
         return word_reader::short(words);
     }
-    triples(words, words[at + 2], at + 3)
+    word_reader::read_many(&Triple, words, words[at + 2], at + 3)
 }
 
 // An escape row: EOF continuation or NONE, length, then its ranges.
@@ -163,7 +127,7 @@ pub fn read_escape_row(words: &[u32], at: usize) -> Result<usize, Refusal>
     if word_reader::left_from(words, at) < 2 {
         return word_reader::short(words);
     }
-    triples(words, words[at + 1], at + 2)
+    word_reader::read_many(&Triple, words, words[at + 1], at + 2)
 }
 
 // A config: state, alternative rule or NONE, two flags, context, action count, actions.
@@ -173,88 +137,41 @@ pub fn read_config(words: &[u32], at: usize) -> Result<usize, Refusal>
     if word_reader::left_from(words, at) < 6 {
         return word_reader::short(words);
     }
-    triples(words, words[at + 5], at + 6)
+    word_reader::read_many(&Triple, words, words[at + 5], at + 6)
 }
 
 // A context: kind and two words, of which all three are read before the kind is judged.
-fn read_context(words: &[u32], at: usize) -> Result<usize, Refusal>
-    ensures { result ≡ context_at words.now at }
-{
-    if word_reader::left_from(words, at) < 3 {
-        return word_reader::short(words);
-    }
-    if 1 < words[at] {
-        return word_reader::field(at);
-    }
-    Ok(at + 3)
-}
+struct Context;
 
-// `count` contexts from `at`.
-fn contexts(words: &[u32], count: u32, at: usize) -> Result<usize, Refusal>
-    ensures { result ≡ many (context_at words.now) count at }
-{
-    let mut left = count;
-    let mut here = at;
-    while 0 < left {
-        match read_context(words, here) {
-            Ok(p) => {
-                here = p;
-                left -= 1;
-            }
-            Err(r) => {
-                return Err(r);
-            }
+impl Record for Context {
+    ghost record_at = { λ k. context_at };
+
+    fn read(&self, words: &[u32], at: usize) -> Result<usize, Refusal> {
+        if word_reader::left_from(words, at) < 3 {
+            return word_reader::short(words);
         }
-    }
-    Ok(here)
-}
-
-// The contexts of a continuation, whose count stands at `at`.
-fn read_contexts(words: &[u32], at: usize) -> Result<usize, Refusal>
-    ensures { result ≡ section context_at words.now at }
-{
-    if words.len() <= at {
-        return word_reader::short(words);
-    }
-    contexts(words, words[at], at + 1)
-}
-
-// `count` configs from `at`.
-fn configs(words: &[u32], count: u32, at: usize) -> Result<usize, Refusal>
-    ensures { result ≡ many (config_at words.now) count at }
-{
-    let mut left = count;
-    let mut here = at;
-    while 0 < left {
-        match read_config(words, here) {
-            Ok(p) => {
-                here = p;
-                left -= 1;
-            }
-            Err(r) => {
-                return Err(r);
-            }
+        if 1 < words[at] {
+            return word_reader::field(at);
         }
+        Ok(at + 3)
     }
-    Ok(here)
 }
 
-// The configs of a continuation, whose count stands at `at`.
-fn read_configs(words: &[u32], at: usize) -> Result<usize, Refusal>
-    ensures { result ≡ section config_at words.now at }
-{
-    if words.len() <= at {
-        return word_reader::short(words);
+// A config, as the record of a section.
+struct Config;
+
+impl Record for Config {
+    ghost record_at = { λ k. config_at };
+
+    fn read(&self, words: &[u32], at: usize) -> Result<usize, Refusal> {
+        read_config(words, at)
     }
-    configs(words, words[at], at + 1)
 }
 
 // A continuation: its contexts, and its configs behind them.
 pub fn read_continuation(words: &[u32], at: usize) -> Result<usize, Refusal>
     ensures { result ≡ continuation_at words.now at }
 {
-    match read_contexts(words, at) {
-        Ok(p) => read_configs(words, p),
-        Err(r) => Err(r),
-    }
+    let configs = word_reader::read_section(&Context, words, at)?;
+    word_reader::read_section(&Config, words, configs)
 }

@@ -1,11 +1,12 @@
-// The records of a table by their kind: one reader for a record of any kind, and one loop for the sections, each a count and so many records.
+// The records of a table by their kind: one reader for a record of any kind, and one for the sections, each a count and so many records.
 #![tactic(auto)]
 
 ghost use Rattle.std.specs.Prelude.{◌≡◌};
-ghost use Rattle.word_reader.specs.Parse.{many, section};
+ghost use Rattle.word_reader.specs.Parse.{section};
 ghost use Rattle.word_sections.specs.Kinds.{record_at};
 
 use refusal::Refusal;
+use word_reader::Record;
 
 // The kinds of records, in the order of their sections.
 #[derive(Clone, Copy)]
@@ -36,32 +37,17 @@ pub fn read_record(kind: Kind, words: &[u32], at: usize) -> Result<usize, Refusa
     }
 }
 
-// `count` records from `at`.
-fn read_records(kind: Kind, words: &[u32], count: u32, at: usize) -> Result<usize, Refusal>
-    ensures { result ≡ many (record_at kind words.now) count at }
-{
-    let mut left = count;
-    let mut here = at;
-    while 0 < left {
-        match read_record(kind, words, here) {
-            Ok(p) => {
-                here = p;
-                left -= 1;
-            }
-            Err(r) => {
-                return Err(r);
-            }
-        }
+impl Record for Kind {
+    ghost record_at = { record_at };
+
+    fn read(&self, words: &[u32], at: usize) -> Result<usize, Refusal> {
+        read_record(*self, words, at)
     }
-    Ok(here)
 }
 
 // The section of a kind, whose count stands at `at`.
 pub fn read_section(kind: Kind, words: &[u32], at: usize) -> Result<usize, Refusal>
     ensures { result ≡ section (record_at kind) words.now at }
 {
-    if words.len() <= at {
-        return word_reader::short(words);
-    }
-    read_records(kind, words, words[at], at + 1)
+    word_reader::read_section(&kind, words, at)
 }

@@ -1,12 +1,12 @@
-// The reader of the Rust, `SerializedReader`: it keeps the words and a position together. Its functions are thin, over the covered readers,
-// which take a slice and a number; `read_opening` reads by it what the Rust's `from_serialized` reads first, the tag and how many modes a
+// The reader of the Rust, `SerializedReader`: it keeps the words and a position together. `read_state` is thin, over the covered reader,
+// which takes a slice and a number; `read_opening` reads by it what the Rust's `from_serialized` reads first, the tag and how many modes a
 // table has.
 #![tactic(auto)]
 
 ghost use Rattle.std.specs.Prelude.{◌≡◌};
 ghost use Rattle.word_reader.specs.Records.{state_at};
-ghost use Rattle.word_serialized.specs.Reader.{Moves, word_at, past_word, past_record, past_state};
-ghost use Rattle.word_serialized.specs.Opened.{counted, opened, opening_of};
+ghost use Rattle.word_serialized.specs.Reader.{Moves, word_at, past_word, past_state};
+ghost use Rattle.word_serialized.specs.Opened.{opening_of};
 
 use refusal::{Refusal, SERIALIZED_TAG, SHORT, TAG};
 
@@ -17,36 +17,6 @@ pub struct SerializedReader<'a> {
     pub position: usize,
 }
 
-// The word at `at`, or nothing at the end.
-fn word_at(words: &[u32], at: usize) -> Option<u32>
-    ensures { result ≡ word_at words.now at }
-{
-    if words.len() <= at {
-        return None;
-    }
-    Some(words[at])
-}
-
-// Behind the word at `at`; at the end reading stays where it is.
-fn past_word(words: &[u32], at: usize) -> usize
-    ensures { result ≡ past_word words.now at }
-{
-    if at < words.len() {
-        return at + 1;
-    }
-    at
-}
-
-// Behind the record that was read; where it was refused reading stays at its front.
-fn past_record(place: Result<usize, Refusal>, at: usize) -> usize
-    ensures { result ≡ past_record place at }
-{
-    match place {
-        Ok(p) => p,
-        Err(r) => at,
-    }
-}
-
 // A reader at the front of the words.
 pub fn new<'a>(data: &'a [u32]) -> SerializedReader<'a>
     ensures { (result.data ≡ «data».entry) × (result.position ≡ 0) }
@@ -55,68 +25,45 @@ pub fn new<'a>(data: &'a [u32]) -> SerializedReader<'a>
 }
 
 impl<'a> SerializedReader<'a> {
-    // The next word, or nothing at the end.
+    // The next word, or nothing at the end, where reading stays.
     pub fn next<'s>(&'s mut self) -> Option<u32>
         ensures { Moves word_at past_word self.old result self.new }
     {
-        let word = word_at(self.data, self.position);
-        self.position = past_word(self.data, self.position);
-        word
+        if self.data.len() <= self.position {
+            return None;
+        }
+        let word = self.data[self.position];
+        self.position += 1;
+        Some(word)
     }
 
-    // A state's words.
+    // A state's words; where the record is refused reading stays at its front.
     pub fn read_state<'s>(&'s mut self) -> Result<usize, Refusal>
         ensures { Moves state_at past_state self.old result self.new }
     {
-        let place = word_records::read_state(self.data, self.position);
-        self.position = past_record(place, self.position);
-        place
+        let behind = word_records::read_state(self.data, self.position)?;
+        self.position = behind;
+        Ok(behind)
     }
 }
 
-// The count of the modes, if it is there.
-fn count_modes(count: Option<u32>, words: usize) -> Result<u32, Refusal>
-    ensures { result ≡ counted count words }
-{
-    match count {
-        Some(n) => Ok(n),
-        None => Err(Refusal {
-            number: SHORT,
-            item: 0,
-            place: words,
-        }),
-    }
-}
-
-// The tag is judged before the count is asked for.
-fn judge_opening(tag: Option<u32>, count: Option<u32>, words: usize) -> Result<u32, Refusal>
-    ensures { result ≡ opened tag count words }
-{
-    match tag {
-        Some(t) => {
-            if t == SERIALIZED_TAG {
-                return count_modes(count, words);
-            }
-            Err(Refusal {
-                number: TAG,
-                item: 0,
-                place: 0,
-            })
-        }
-        None => Err(Refusal {
-            number: SHORT,
-            item: 0,
-            place: words,
-        }),
-    }
-}
-
-// The tag, and how many modes there are.
+// The tag, and how many modes there are. The tag is judged before the count is asked for.
 pub fn read_opening(data: &[u32]) -> Result<u32, Refusal>
     ensures { result ≡ opening_of «data».now }
 {
+    let short = Refusal {
+        number: SHORT,
+        item: 0,
+        place: data.len(),
+    };
     let mut reader = new(data);
-    let tag = reader.next();
-    let count = reader.next();
-    judge_opening(tag, count, data.len())
+    let tag = reader.next().ok_or(short)?;
+    if tag != SERIALIZED_TAG {
+        return Err(Refusal {
+            number: TAG,
+            item: 0,
+            place: 0,
+        });
+    }
+    reader.next().ok_or(short)
 }

@@ -8,8 +8,5 @@ returns-then-numbers-lt-ROOM_NUMBERS c = search limiting
 pub returns-then-words-gt-MAX_WORDS : goal.returns-then-words-gt-MAX_WORDS
 returns-then-words-gt-MAX_WORDS c = search limiting
 
-pub find_sections-requires : goal.find_sections-requires
-find_sections-requires c = search limiting
-
 pub returns : goal.returns
 returns c = search limiting

@@ -3,17 +3,8 @@ use Rattle.word_reader.proofs.Laws.{cases}
 use Rattle.word_records.proofs.RunForms.{ascii_form}
 use Rattle.word_records.proofs.read_ascii_row.Goals as goal
 
-pub left_from-requires : goal.left_from-requires
-left_from-requires c = search (cases, ascii_form)
-
-pub short-requires : goal.short-requires
-short-requires c = search (cases, ascii_form)
-
 pub returns-then-left_from-lt-ROW_WORDS : goal.returns-then-left_from-lt-ROW_WORDS
 returns-then-left_from-lt-ROW_WORDS c = search (cases, ascii_form)
-
-pub overflow_add-result : goal.overflow_add-result
-overflow_add-result c = search (cases, ascii_form)
 
 pub returns : goal.returns
 returns c = search (cases, ascii_form)

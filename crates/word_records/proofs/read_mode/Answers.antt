@@ -3,32 +3,14 @@ use Rattle.word_reader.proofs.Laws.{cases}
 use Rattle.word_records.proofs.SimpleForms.{mode_form}
 use Rattle.word_records.proofs.read_mode.Goals as goal
 
-pub short-requires : goal.short-requires
-short-requires c = search (cases, mode_form)
-
 pub returns-then-words-at : goal.returns-then-words-at
 returns-then-words-at c = search (cases, mode_form)
-
-pub offset_bounds-words-at : goal.offset_bounds-words-at
-offset_bounds-words-at c = search (cases, mode_form)
-
-pub bounds-words-at : goal.bounds-words-at
-bounds-words-at c = search (cases, mode_form)
-
-pub overflow_add-result : goal.overflow_add-result
-overflow_add-result c = search (cases, mode_form)
 
 pub returns-then-start-le-MAX_TARGET : goal.returns-then-start-le-MAX_TARGET
 returns-then-start-le-MAX_TARGET c = search (cases, mode_form)
 
-pub overflow_add-result-then-start : goal.overflow_add-result-then-start
-overflow_add-result-then-start c = search (cases, mode_form)
-
 pub returns-then-start : goal.returns-then-start
 returns-then-start c = search (cases, mode_form)
-
-pub field-requires : goal.field-requires
-field-requires c = search (cases, mode_form)
 
 pub returns : goal.returns
 returns c = search (cases, mode_form)
