@@ -1,63 +1,25 @@
 // Pools of ascii rows: 128 targets each. The pool may be of any length and hold any numbers.
 #![tactic(auto)]
 
-ghost use Rattle.std.specs.Prelude.{◌≡◌, ◌+◌, ◌*◌, ◌≤◌, length, take, drop};
-ghost use Rattle.refusal.specs.Lists.{same_list, first_equal};
-ghost use Rattle.buffer.specs.Over.{Put};
-ghost use Rattle.pool_rows.specs.Pools.{ascii, rows_from, after_rows, append, find_or_append, intern, Interns};
+ghost use Rattle.std.specs.Prelude.{◌≡◌, ◌*◌, ◌≤◌, length};
+ghost use Rattle.refusal.specs.Lists.{first_equal};
+ghost use Rattle.pool_rows.specs.Pools.{ascii, rows_from, append, find_or_append, intern, Interns};
 
 use pool_rows::refuse;
 use refusal::{FIELD, NOT_TABLE, ROOM, Refusal};
 
-// Is the ascii row at a place of the pool this one?
-fn same_at(pool: &[u16], at: usize, row: &[u16]) -> bool
-    requires within { at + 128 ≤ length pool.now }
-    requires size { length row.now ≡ 128 }
-    ensures { result ≡ same_list (take 128 (drop at pool.now)) row.now }
-{
-    let mut j = 0;
-    while j < row.len() {
-        if pool[at + j] != row[j] {
-            return false;
-        }
-        j += 1;
-    }
-    true
-}
-
 // The number of the first equal row, or how many rows there are.
 fn first_equal(pool: &[u16], rows: usize, row: &[u16]) -> usize
-    requires within { after_rows ascii pool.now rows 0 ≤ length pool.now }
+    requires within { rows * 128 ≤ length pool.now }
     requires size { length row.now ≡ 128 }
     ensures { result ≡ first_equal row.now (rows_from ascii pool.now rows 0) }
 {
-    let mut left = rows;
-    let mut at = 0;
-    let mut i = 0;
-    while 0 < left {
-        if same_at(pool, at, row) {
+    for i in 0..rows {
+        if &pool[i * 128..i * 128 + 128] == row {
             return i;
         }
-        at += 128;
-        left -= 1;
-        i += 1;
     }
-    i
-}
-
-// Writes a row of targets over the pool from a place on, and answers the place behind it.
-fn put_row(row: &[u16], pool: &mut [u16], at: usize) -> usize
-    requires { at + length row.now ≤ length pool.old }
-    ensures { Put row.now at pool.old result pool.new }
-{
-    let mut i = 0;
-    let mut m = at;
-    while i < row.len() {
-        pool[m] = row[i];
-        i += 1;
-        m += 1;
-    }
-    m
+    rows
 }
 
 // Appends a row, if there is room for it.
@@ -66,10 +28,11 @@ fn append_row(pool: &mut [u16], rows: usize, row: &[u16]) -> Result<usize, Refus
     requires size { length row.now ≡ 128 }
     ensures { Interns result pool.old pool.new (append ascii pool.old rows row.now) }
 {
-    if pool.len() - rows * 128 < 128 {
+    let at = rows * 128;
+    if pool.len() - at < 128 {
         return refuse(ROOM);
     }
-    put_row(row, pool, rows * 128);
+    pool[at..at + 128].copy_from_slice(row);
     Ok(rows)
 }
 

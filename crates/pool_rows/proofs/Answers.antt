@@ -2,21 +2,22 @@
 -- interned. Assumes nothing.
 use Prim.Native.Nat.{ℕ, zero, suc, ◌+◌, ◌*◌, ◌-◌, ◌/◌, ◌<◌, ◌≤◌, min}
 use native.Mathlib.Omega.{arith}
-use mathlib.Core.Path.{◌≡◌, refl, sym, ap, subst, ◌∙◌}
+use mathlib.Core.Path.{◌≡◌, refl, sym, ap, ap₂, ◌∙◌}
 use mathlib.Core.Bool.{Bool, true, false}
 use mathlib.Core.List.{List, ◌∷◌}
-use lib.ListN.{length, get_or}
+use lib.ListN.{length, get_or, set}
 use borrow.Author.Rules.{rules}
 use borrow.Author.Tests.{lt-ltb, le-ltb, le-leb, lt-leb, eq-eqb, ne_eqb}
 use Rattle.refusal.specs.Lists.{first_equal}
 use Rattle.refusal.specs.Said.{Said, ok, no_by, no, FIELD, ROOM, NOT-TABLE}
 use Rattle.refusal.specs.Fixed.{NONE}
-use Rattle.buffer.specs.Over.{Put}
+use borrow.Rule.Slice.PartMut.{put_mid}
+use Rattle.buffer.specs.Over.{lay}
 use Rattle.std.specs.Prelude.{Result, Ok, Err}
 use Rattle.refusal.specs.declared.Refusal.{Refusal}
 use Rattle.pool_rows.specs.Pools.{Kind, ascii, wide, standing, rows_from, after_rows, in_threes, good, countable}
 use Rattle.pool_rows.specs.Pools.{append, first_in, find_or_append, intern, said, Interns}
-use Rattle.pool_rows.proofs.Rows.{threes_length}
+use Rattle.pool_rows.proofs.Rows.{threes_length, laid-part, stored-part}
 
 -- ascii rows end at a multiple of their size
 ascii_after : (w : List ℕ) (n at : ℕ) → after_rows ascii w n at ≡ at + n * 128
@@ -36,12 +37,11 @@ module _ (k : Kind) (w : List ℕ) (n : ℕ) (row : List ℕ) {end : ℕ} (b : e
       let m : length w < after_rows k w n 0 + length (standing k row) = omega arith in
       rw (lt-ltb _ _ m) (record { says = e; leaves = refl })
 
-  pub append_put : {new : List ℕ} {r : ℕ} → end + length (standing k row) ≤ length w → Put (standing k row) end w r new →
-      Interns (Ok n) w new (append k w n row)
+  pub append_put : {new : List ℕ} → end + length (standing k row) ≤ length w → new ≡ lay end (standing k row) w → Interns (Ok n) w new (append k w n row)
   unfolding append
   append_put h p =
       let m : after_rows k w n 0 + length (standing k row) ≤ length w = omega arith in
-      rw (le-ltb _ _ m, ← b) (record { says = refl; leaves = p.is })
+      rw (le-ltb _ _ m, ← b) (record { says = refl; leaves = p })
 
 -- An equal row is found, or none is
 
@@ -86,9 +86,11 @@ module _ (w : List ℕ) (n : ℕ) where
         Interns r w w (append ascii w n row)
     ascii_room h l t e = append-room ascii w n row (ascii_end w n) (omega arith) e
 
-    pub ascii_put : {new : List ℕ} {r : ℕ} → n * 128 ≤ length w → length row ≡ 128 → 128 ≤ length w - n * 128 → Put row (n * 128) w r new →
-        Interns (Ok n) w new (append ascii w n row)
-    ascii_put h l t p = append_put ascii w n row (ascii_end w n) (omega arith) p
+    pub ascii_put : {m : ℕ} {xs : List ℕ} → n * 128 ≤ length w → length row ≡ 128 → 128 ≤ length w - n * 128 → m ≡ 128 → xs ≡ row →
+        Interns (Ok n) w (put_mid (n * 128) m w xs) (append ascii w n row)
+    ascii_put {m} {xs} h l t e c =
+        append_put ascii w n row (ascii_end w n) (omega arith)
+        (laid-part (n * 128) m w xs (omega (arith, ap length c)) (omega arith) ∙ ap (λ (ys : List ℕ). lay (n * 128) ys w) c)
 
     pub ascii_outside : {r : Result ℕ Refusal} → length w / 128 < n → said r ≡ no NOT-TABLE 0 → Interns r w w (intern ascii w n row)
     ascii_outside h e = intern-outside ascii w n row (omega (arith, ascii_end w n)) e
@@ -111,9 +113,11 @@ module _ (w : List ℕ) (n : ℕ) (row : List ℕ) where
     pub wide_room : {r : Result ℕ Refusal} → end ≤ length w → length w - end ≤ length row → said r ≡ no ROOM 0 → Interns r w w (append wide w n row)
     wide_room h t e = append-room wide w n row b (omega arith) e
 
-    pub wide_put : {new : List ℕ} {x r : ℕ} → x ≡ length row / 3 → end ≤ length w → length row < length w - end → Put (x ∷ row) end w r new →
-        Interns (Ok n) w new (append wide w n row)
-    wide_put {new} {x} {r} q h t p = append_put wide w n row b (omega arith) (subst (λ (m : ℕ). Put (m ∷ row) end w r new) q p)
+    pub wide_put : {x m : ℕ} {xs : List ℕ} → x ≡ length row / 3 → end ≤ length w → length row < length w - end → m ≡ length row → xs ≡ row →
+        Interns (Ok n) w (put_mid (end + 1) m (set w end x) xs) (append wide w n row)
+    wide_put {x} {m} {xs} q h t e c =
+        append_put wide w n row b (omega arith)
+        (stored-part end m x w xs (e ∙ sym (ap length c)) (omega arith) ∙ ap₂ (λ (y : ℕ) (ys : List ℕ). lay end (y ∷ ys) w) q c)
 
     pub wide_fits : end ≤ length w → after_rows wide w n 0 ≤ length w
     wide_fits h = omega arith

@@ -1,63 +1,56 @@
 -- The laws of the rows of a pool: of two rows that are compared, of the first equal one, which are stated once for both kinds, and of a row
--- that is judged or copied. Assumes nothing.
-use Prim.Native.Nat.{ℕ, zero, suc, ◌+◌, ◌*◌, ◌-◌, ◌/◌, ◌^◌, ◌<◌, ◌≤◌, min}
-use native.Mathlib.Nat.{add-zero, sub-zero}
-use native.Mathlib.Numerals.{add-one}
+-- that is judged or laid into the pool. Assumes nothing.
+use Prim.Native.Nat.{ℕ, zero, suc, ◌+◌, ◌*◌, ◌-◌, ◌/◌, ◌%◌, ◌<◌, ◌≤◌, min}
 use native.Mathlib.Omega.{arith}
-use mathlib.Core.Path.{◌≡◌, refl, sym, ap, ◌∙◌}
+use mathlib.Core.Path.{◌≡◌, refl, sym, ap, ap₂, ◌∙◌}
 use mathlib.Core.Bool.{Bool, true, false, ◌&&◌, false≢true, and-eq-true_iff}
-use mathlib.Core.List.{List, [], ◌∷◌}
+use mathlib.Core.List.{List, [], ◌∷◌, ◌++◌}
 use lib.Dec.{eqb, leb}
-use lib.ListN.{length, get_or, take, drop, set, length-drop}
-use lib.Seq.{drop-cons, drop-length}
-use mir.Syntax.{w64}
-use mir.Val.{Fits}
+use lib.ListN.{length, get_or, take, drop, set, length-append, length-drop, length-set}
+use lib.Seq.{drop-cons}
 use borrow.Author.Rules.{rules}
 use borrow.Author.Tests.{eq-eqb, ne_eqb, eqb-true, eqb-false, le-leb, lt-leb}
+use borrow.Rule.Slice.PartMut.{put_mid}
+use Rattle.std.proofs.Common.{nat_eq, slice_range}
+use Rattle.std.specs.List.{starts_with}
+use Rattle.std.proofs.lemmas.Slice.{between_to_end}
+use Rattle.std.specs.Cmp.Lexicographic.{pointwise}
 use Rattle.refusal.specs.Lists.{same_list, first_equal}
-use Rattle.buffer.specs.Over.{Put}
-use Rattle.buffer.proofs.Going.{Going, going_start, going_done, going_place, going_put, put_one, put_size_1}
+use Rattle.buffer.specs.Over.{lay}
+use Rattle.buffer.proofs.Overs.{over-front, lay_put}
 use Rattle.pool_rows.specs.Pools.{Kind, ascii, wide, size_at, rows_from, after_rows, in_threes}
 
--- Comparing a row with n numbers of w from a place on: what is left at j
+-- Two rows that `==` compares
 
-unfoldable pub same_from : ℕ → List ℕ → ℕ → List ℕ → ℕ → Bool
-same_from n w at row j = same_list (take (n - j) (drop (at + j) w)) (drop j row)
+-- two pairs of numbers that are equal together
+eqb_same : (a b c d : ℕ) → (a ≡ b → c ≡ d) → (c ≡ d → a ≡ b) → eqb a b ≡ eqb c d
+eqb_same a b c d f g = cases (eqb a b) refl where
+  cases : (t : Bool) → eqb a b ≡ t → t ≡ eqb c d
+  cases true e = sym (eq-eqb c d (f (eqb-true a b e)))
+  cases false e = sym (ne_eqb c d (λ q. eqb-false a b e (g q)))
 
--- the loop's invariant: what is left to compare gives what all gives
-abbrev pub Comparing : ℕ → List ℕ → ℕ → List ℕ → ℕ → Type 0
-Comparing n w at row j = (j ≤ length row) × (same_from n w at row j ≡ same_list (take n (drop at w)) row)
+equal_is : (xs ys : List ℕ) → pointwise nat_eq xs ys ≡ same_list xs ys
+unfolding same_list
+equal_is [] [] = refl
+equal_is [] (y ∷ ys) = refl
+equal_is (x ∷ xs) [] = refl
+equal_is (x ∷ xs) (y ∷ ys) = ap (λ (t : Bool). eqb x y && t) (equal_is xs ys)
 
-pub same_begins : (n : ℕ) (w : List ℕ) (at : ℕ) (row : List ℕ) → same_from n w at row 0 ≡ same_list (take n (drop at w)) row
-unfolding same_from
-same_begins n w at row = rw (sub-zero, add-zero)
+-- .. of which one is the n numbers of a pool before a place
+part_equal : (w row : List ℕ) (at n : ℕ) {e : ℕ} {t : Bool} → t ≡ pointwise nat_eq (slice_range w at e) row → e ≡ at + n →
+    t ≡ same_list (take n (drop at w)) row
+part_equal w row at n {e} q h =
+    let m : e - at ≡ n = omega arith in
+    q ∙ equal_is (slice_range w at e) row ∙ ap (λ (k : ℕ). same_list (take k (drop at w)) row) m
 
-module _ (n : ℕ) (w : List ℕ) (at : ℕ) (row : List ℕ) (j : ℕ) {all : Bool} (i : same_from n w at row j ≡ all) where
-  split : j < length row → at + n ≤ length w → length row ≡ n → same_from n w at row j ≡ (eqb (get_or w (at + j) 0) (get_or row j 0) && same_from n w at row (j + 1))
-  unfolding same_from same_list
-  split h r l =
-      let one : suc j ≡ j + 1 = omega arith in
-      let next : suc (at + j) ≡ at + (j + 1) = omega arith in
-      let more : n - j ≡ suc (n - (j + 1)) = omega arith in
-      rw (drop-cons row j 0 h, drop-cons w (at + j) 0 (omega arith), more, one, next)
+-- A wide row is compared by its count first, and `starts_with` compares the ranges behind it
 
-  pub same_turn : j < length row → at + n ≤ length w → length row ≡ n → get_or w (at + j) 0 ≡ get_or row j 0 → same_from n w at row (j + 1) ≡ all
-  same_turn h r l e = sym (split h r l ∙ rw (eq-eqb (get_or w (at + j) 0) (get_or row j 0) e)) ∙ i
-
-  pub same_stop : j < length row → at + n ≤ length w → length row ≡ n → (get_or w (at + j) 0 ≡ get_or row j 0 → ⊥) → false ≡ all
-  same_stop h r l e = sym (split h r l ∙ rw (ne_eqb (get_or w (at + j) 0) (get_or row j 0) e)) ∙ i
-
-  pub same_done : length row ≤ j → j ≤ length row → length row ≡ n → true ≡ all
-  unfolding same_from same_list
-  same_done h g l =
-      let here : j ≡ length row = omega arith in
-      let none : n - j ≡ 0 = omega arith in
-      let e : same_from n w at row j ≡ true = rw (none, here, drop-length row) in
-      sym e ∙ i
-
-pub ruleset comparing = (rules, same_begins, same_turn, same_stop, same_done)
-
--- A wide row is compared by its count first
+begins_is : (xs ys : List ℕ) → pointwise nat_eq ys xs ≡ same_list xs ys
+unfolding same_list
+begins_is [] [] = refl
+begins_is [] (y ∷ ys) = refl
+begins_is (x ∷ xs) [] = refl
+begins_is (x ∷ xs) (y ∷ ys) = ap₂ ◌&&◌ (eqb_same y x x y sym sym) (begins_is xs ys)
 
 module _ (w : List ℕ) (at x : ℕ) (row : List ℕ) (h : at + size_at wide w at ≤ length w) where
   wide_split : same_list (take (size_at wide w at) (drop at w)) (x ∷ row) ≡ (eqb (get_or w at 0) x && same_list (take (get_or w at 0 * 3) (drop (at + 1) w)) row)
@@ -67,143 +60,145 @@ module _ (w : List ℕ) (at x : ℕ) (row : List ℕ) (h : at + size_at wide w a
       let size : size_at wide w at ≡ suc (get_or w at 0 * 3) = omega arith in
       rw (size, drop-cons w at 0 (omega arith), one)
 
-  pub wide_differ : (get_or w at 0 ≡ x → ⊥) → false ≡ same_list (take (size_at wide w at) (drop at w)) (x ∷ row)
-  wide_differ n = sym (wide_split ∙ rw (ne_eqb (get_or w at 0) x n))
+  pub wide_differ : eqb (get_or w at 0) x ≡ false → eqb (get_or w at 0) x ≡ same_list (take (size_at wide w at) (drop at w)) (x ∷ row)
+  wide_differ n = n ∙ sym (wide_split ∙ rw n)
 
-  pub wide_same : {t : Bool} → get_or w at 0 ≡ x → length row ≡ x * 3 → t ≡ same_list (take (length row) (drop (at + 1) w)) row →
+  pub wide_same : {t : Bool} → eqb (get_or w at 0) x ≡ true → length row ≡ x * 3 → t ≡ starts_with nat_eq (slice_range w (at + 1) (length w)) row →
       t ≡ same_list (take (size_at wide w at) (drop at w)) (x ∷ row)
   wide_same e l f =
+      let q : get_or w at 0 ≡ x = eqb-true (get_or w at 0) x e in
       let n : length row ≡ get_or w at 0 * 3 = omega arith in
-      f ∙ ap (λ (m : ℕ). same_list (take m (drop (at + 1) w)) row) n ∙ sym (wide_split ∙ rw (eq-eqb (get_or w at 0) x e))
+      let o : length w ≤ length w = omega arith in
+      f ∙ begins_is (take (length row) (slice_range w (at + 1) (length w))) row
+      ∙ ap₂ (λ (m : ℕ) (ys : List ℕ). same_list (take m ys) row) n (between_to_end w (at + 1) (length w) o) ∙ sym (wide_split ∙ rw e)
 
-  pub wide_rest : get_or w at 0 ≡ x → length row ≡ x * 3 → at + 1 + length row ≤ length w
-  wide_rest e l = omega arith
+pub ruleset comparing-wide = (rules, wide_differ, wide_same)
 
-pub ruleset comparing-wide = (rules, wide_differ, wide_same, wide_rest)
+-- The rows that are left behind the first i, once for both kinds
 
--- The rows that are left, once for both kinds
-
-module _ (k : Kind) (w : List ℕ) (left at : ℕ) where
-  rows_open : 0 < left → rows_from k w left at ≡ take (size_at k w at) (drop at w) ∷ rows_from k w (left - 1) (at + size_at k w at)
-  unfolding rows_from
-  rows_open h = let e : left ≡ suc (left - 1) = omega arith in ap (λ (n : ℕ). rows_from k w n at) e
-
-  after_open : 0 < left → after_rows k w left at ≡ after_rows k w (left - 1) (at + size_at k w at)
-  unfolding after_rows
-  after_open h = let e : left ≡ suc (left - 1) = omega arith in ap (λ (n : ℕ). after_rows k w n at) e
+one-less : (rows i : ℕ) → i < rows → rows - i ≡ suc (rows - (i + 1))
+one-less rows i h = omega arith
 
 pub after_≥ : (k : Kind) (w : List ℕ) (n at : ℕ) → at ≤ after_rows k w n at
 unfolding after_rows
 after_≥ k w zero at = omega arith
 after_≥ k w (suc n) at = omega (arith, after_≥ k w n (at + size_at k w at))
 
-module _ (k : Kind) (w : List ℕ) (left at : ℕ) {e : ℕ} (b : after_rows k w left at ≤ e) where
-  pub row_within : 0 < left → at + size_at k w at ≤ e
-  row_within h = omega (arith, after_open k w left at h, after_≥ k w (left - 1) (at + size_at k w at))
+module _ (k : Kind) (w : List ℕ) (rows i at : ℕ) (h : i < rows) where
+  rows_open : rows_from k w (rows - i) at ≡ take (size_at k w at) (drop at w) ∷ rows_from k w (rows - (i + 1)) (at + size_at k w at)
+  unfolding rows_from
+  rows_open = ap (λ (n : ℕ). rows_from k w n at) (one-less rows i h)
 
-  pub rows_within : {next : ℕ} → 0 < left → next ≡ at + size_at k w at → after_rows k w (left - 1) next ≤ e
-  rows_within h n = rw (n, ← after_open k w left at h) b
+  after_open : after_rows k w (rows - i) at ≡ after_rows k w (rows - (i + 1)) (at + size_at k w at)
+  unfolding after_rows
+  after_open = ap (λ (n : ℕ). after_rows k w n at) (one-less rows i h)
+
+  module _ {e : ℕ} (b : after_rows k w (rows - i) at ≤ e) where
+    pub row_within : at + size_at k w at ≤ e
+    row_within = omega (arith, after_open, after_≥ k w (rows - (i + 1)) (at + size_at k w at))
+
+    pub rows_within : {next : ℕ} → next ≡ at + size_at k w at → after_rows k w (rows - (i + 1)) next ≤ e
+    rows_within n = rw (n, ← after_open) b
 
 -- the loop's invariant: the first equal row stands as far behind as it does from here
-abbrev pub Finding : Kind → List ℕ → ℕ → List ℕ → ℕ → ℕ → ℕ → Type 0
-Finding k w rows row left at i =
-    (i + first_equal row (rows_from k w left at) ≡ first_equal row (rows_from k w rows 0)) × (after_rows k w left at ≤ length w) × (i + left ≤ rows)
+abbrev pub Finding : Kind → List ℕ → ℕ → List ℕ → ℕ → ℕ → Type 0
+Finding k w rows row i at =
+    (i + first_equal row (rows_from k w (rows - i) at) ≡ first_equal row (rows_from k w rows 0)) × (after_rows k w (rows - i) at ≤ length w)
 
-module _ (k : Kind) (w row : List ℕ) (left at i : ℕ) {all : ℕ} (g : i + first_equal row (rows_from k w left at) ≡ all) where
-  pub first_here : {t : Bool} → 0 < left → t ≡ same_list (take (size_at k w at) (drop at w)) row → t ≡ true → i ≡ all
-  unfolding first_equal
-  first_here h e f =
-      let o : first_equal row (rows_from k w left at) ≡ 0 = rw (rows_open k w left at h, sym e ∙ f) in
-      omega arith
+pub find_start : (k : Kind) (w : List ℕ) (rows : ℕ) (row : List ℕ) {at : ℕ} → after_rows k w rows 0 ≤ length w → at ≡ 0 → Finding k w rows row 0 at
+find_start k w rows row h e = let z : rows - 0 ≡ rows = omega arith in rw (z, e) (omega arith, h)
 
-  pub first_next : {t : Bool} {next : ℕ} → 0 < left → t ≡ same_list (take (size_at k w at) (drop at w)) row → t ≡ false → next ≡ at + size_at k w at →
-      i + 1 + first_equal row (rows_from k w (left - 1) next) ≡ all
-  unfolding first_equal
-  first_next h e f n =
-      let o : first_equal row (rows_from k w left at) ≡ suc (first_equal row (rows_from k w (left - 1) (at + size_at k w at)))
-      = rw (rows_open k w left at h, sym e ∙ f) in
-      rw n (omega arith)
-
-  pub first_none : left ≤ 0 → i ≡ all
+module _ (k : Kind) (w row : List ℕ) (rows i at : ℕ) {all : ℕ} (g : i + first_equal row (rows_from k w (rows - i) at) ≡ all) where
+  pub first_none : rows ≤ i → i ≤ rows → rows ≡ all
   unfolding first_equal rows_from
-  first_none h =
-      let z : left ≡ 0 = omega arith in
-      let o : first_equal row (rows_from k w left at) ≡ 0 = rw z in
+  first_none h l =
+      let z : rows - i ≡ 0 = omega arith in
+      let o : first_equal row (rows_from k w (rows - i) at) ≡ 0 = rw z in
       omega arith
 
--- so the row that is looked at lies in the pool
+  module _ (h : i < rows) {t : Bool} (e : t ≡ same_list (take (size_at k w at) (drop at w)) row) where
+    pub first_here : t ≡ true → i ≡ all
+    unfolding first_equal
+    first_here f =
+        let o : first_equal row (rows_from k w (rows - i) at) ≡ 0 = rw (rows_open k w rows i at h, sym e ∙ f) in
+        omega arith
 
-module _ (w : List ℕ) (left at : ℕ) (b : after_rows ascii w left at ≤ length w) (h : 0 < left) where
-  pub targets-within : at + 128 ≤ length w
-  targets-within = row_within ascii w left at b h
+    pub first_next : t ≡ false → {next : ℕ} → next ≡ at + size_at k w at → i + 1 + first_equal row (rows_from k w (rows - (i + 1)) next) ≡ all
+    unfolding first_equal
+    first_next f n =
+        let o : first_equal row (rows_from k w (rows - i) at) ≡ suc (first_equal row (rows_from k w (rows - (i + 1)) (at + size_at k w at)))
+        = rw (rows_open k w rows i at h, sym e ∙ f) in
+        rw n (omega arith)
 
-  pub targets_fit : length w * 2 < 2 ^ 63 → Fits w64 (at + 128)
-  targets_fit l = record { fits = omega (arith, targets-within) }
+-- .. of ascii rows, of which the next one stands 128 numbers behind
 
-module _ (w : List ℕ) (left at : ℕ) (b : after_rows wide w left at ≤ length w) (h : 0 < left) where
-  pub count-within : at < length w
-  count-within = omega (arith, row_within wide w left at b h)
+module _ (w row : List ℕ) (rows i : ℕ) (g : Finding ascii w rows row i (i * 128)) (h : i < rows) {e : ℕ} {t : Bool}
+    (q : t ≡ pointwise nat_eq (slice_range w (i * 128) e) row)
+    (m : e ≡ i * 128 + 128) where
+  pub ascii_here : t ≡ true → i ≡ first_equal row (rows_from ascii w rows 0)
+  ascii_here = first_here ascii w row rows i (i * 128) g.0 h (part_equal w row (i * 128) 128 q m)
 
-  pub count-bytes : length w * 4 < 2 ^ 63 → Fits w64 (at * 4)
-  count-bytes l = record { fits = omega (arith, count-within) }
+  pub ascii_next : t ≡ false → Finding ascii w rows row (i + 1) ((i + 1) * 128)
+  ascii_next f =
+      let n : (i + 1) * 128 ≡ i * 128 + 128 = omega arith in
+      (first_next ascii w row rows i (i * 128) g.0 h (part_equal w row (i * 128) 128 q m) f n, rows_within ascii w rows i (i * 128) h g.1 n)
 
-  pub count_place : length w * 4 < 2 ^ 63 → at < 2 ^ 63
-  count_place l = omega (arith, count-within)
+-- .. of wide rows, whose count is read
 
-pub ruleset finding = (rules, row_within, rows_within, targets-within, targets_fit, count-within, count-bytes, count_place, first_here, first_next, first_none)
+pub count_within : (w : List ℕ) (rows i at : ℕ) → i < rows → after_rows wide w (rows - i) at ≤ length w → at < length w
+count_within w rows i at h b = omega (arith, row_within wide w rows i at h b)
+
+pub ruleset counts = (rules, count_within)
 
 -- Where wide rows end, or that they lead outside
 
-module _ (w : List ℕ) (left at : ℕ) {all : ℕ} (g : min (1 + length w) (after_rows wide w left at) ≡ all) where
-  pub end_next : {next : ℕ} → 0 < left → next ≡ at + (1 + get_or w at 0 * 3) → min (1 + length w) (after_rows wide w (left - 1) next) ≡ all
-  end_next h n = rw (n, ← after_open wide w left at h) g
+module _ (w : List ℕ) (rows i at : ℕ) {all : ℕ} (g : min (1 + length w) (after_rows wide w (rows - i) at) ≡ all) where
+  pub end_next : {next : ℕ} → i < rows → next ≡ at + (1 + get_or w at 0 * 3) → min (1 + length w) (after_rows wide w (rows - (i + 1)) next) ≡ all
+  end_next h n = rw (n, ← after_open wide w rows i at h) g
 
-  pub end_outside : 0 < left → length w ≤ at → min (1 + length w) (length w + 1) ≡ all
-  end_outside h l = omega (arith, after_open wide w left at h, after_≥ wide w (left - 1) (at + size_at wide w at))
+  pub end_outside : i < rows → length w ≤ at → min (1 + length w) (length w + 1) ≡ all
+  end_outside h l = omega (arith, after_open wide w rows i at h, after_≥ wide w (rows - (i + 1)) (at + size_at wide w at))
 
-  pub end_done : left ≤ 0 → min (1 + length w) at ≡ all
+  pub end_done : rows ≤ i → min (1 + length w) at ≡ all
   unfolding after_rows
   end_done h =
-      let z : left ≡ 0 = omega arith in
-      let o : after_rows wide w left at ≡ at = rw z in
+      let z : rows - i ≡ 0 = omega arith in
+      let o : after_rows wide w (rows - i) at ≡ at = rw z in
       omega arith
 
 pub ruleset ending = (rules, end_next, end_outside, end_done)
 
--- A row in threes
+-- A row in threes: a range of three numbers, and the row behind it
 
-module _ (row : List ℕ) (i : ℕ) {all : Bool} (g : in_threes (drop i row) ≡ all) where
-  three_open : 2 < length row - i → in_threes (drop i row) ≡ (leb (get_or row (i + 2) 0) 65535 && in_threes (drop (i + 3) row))
+module _ (range rest : List ℕ) {row : List ℕ} (e : row ≡ range ++ rest) (n : length range ≡ 3) where
+  three_open : in_threes row ≡ (leb (get_or range 2 0) 65535 && in_threes rest)
   unfolding in_threes
-  three_open h =
-      let two : suc (suc i) ≡ i + 2 = omega arith in
-      let three : suc (suc (suc i)) ≡ i + 3 = omega arith in
-      rw (drop-cons row i 0 (omega arith), drop-cons row (suc i) 0 (omega arith), drop-cons row (suc (suc i)) 0 (omega arith), three, two)
+  three_open = ap in_threes e ∙ go range n
+    where
+      go : (l : List ℕ) → length l ≡ 3 → in_threes (l ++ rest) ≡ (leb (get_or l 2 0) 65535 && in_threes rest)
+      go (x ∷ y ∷ z ∷ []) n = refl
+      go [] n = absurd (omega arith)
+      go (x ∷ []) n = absurd (omega arith)
+      go (x ∷ y ∷ []) n = absurd (omega arith)
+      go (x ∷ y ∷ z ∷ u ∷ l) n = absurd (omega arith)
 
-  pub three_turn : 2 < length row - i → get_or row (i + 2) 0 ≤ 65535 → in_threes (drop (i + 3) row) ≡ all
-  three_turn h l = sym (three_open h ∙ rw (le-leb (get_or row (i + 2) 0) 65535 l)) ∙ g
+  pub three_left : {m : ℕ} → length row % 3 ≡ m → length rest % 3 ≡ m
+  three_left h = omega (arith, ap length e, length-append range rest)
 
-  pub three_stop : 2 < length row - i → 65535 < get_or row (i + 2) 0 → false ≡ all
-  three_stop h l = sym (three_open h ∙ rw (lt-leb (get_or row (i + 2) 0) 65535 l)) ∙ g
+  module _ {all : Bool} (g : in_threes row ≡ all) where
+    pub three_turn : get_or range 2 0 ≤ 65535 → in_threes rest ≡ all
+    three_turn l = sym (three_open ∙ rw (le-leb (get_or range 2 0) 65535 l)) ∙ g
 
-short : (l : List ℕ) → length l ≤ 2 → in_threes l ≡ eqb (length l) 0
+    pub three_stop : 65535 < get_or range 2 0 → false ≡ all
+    three_stop l = sym (three_open ∙ rw (lt-leb (get_or range 2 0) 65535 l)) ∙ g
+
+-- .. of fewer than three numbers it is good where it is empty
+pub three_done : (row rest : List ℕ) {all : Bool} → in_threes rest ≡ all → length rest < 3 → length rest % 3 ≡ length row % 3 → eqb (length row % 3) 0 ≡ all
 unfolding in_threes
-short [] h = refl
-short (x ∷ []) h = refl
-short (x ∷ y ∷ []) h = refl
-short (x ∷ y ∷ z ∷ l) h = absurd (omega arith)
-
--- two pairs of numbers that are equal together
-eqb_same : (a b c d : ℕ) → (a ≡ b → c ≡ d) → (c ≡ d → a ≡ b) → eqb a b ≡ eqb c d
-eqb_same a b c d f g = cases (eqb a b) refl where
-  cases : (t : Bool) → eqb a b ≡ t → t ≡ eqb c d
-  cases true e = sym (eq-eqb c d (f (eqb-true a b e)))
-  cases false e = sym (ne_eqb c d (λ q. eqb-false a b e (g q)))
-
-pub three_done : (row : List ℕ) (i : ℕ) {all : Bool} → in_threes (drop i row) ≡ all → length row - i ≤ 2 → i ≤ length row → eqb (length row) i ≡ all
-three_done row i g h k =
-    let l : length (drop i row) ≡ length row - i = length-drop i row in
-    eqb_same (length row) i (length (drop i row)) 0 (λ e. omega arith) (λ e. omega arith) ∙ sym (short (drop i row) (omega arith)) ∙ g
+three_done row [] g h m = let e : length row % 3 ≡ 0 = omega arith in rw e g
+three_done row (x ∷ []) g h m = let e : length row % 3 ≡ 1 = omega arith in rw e g
+three_done row (x ∷ y ∷ []) g h m = let e : length row % 3 ≡ 2 = omega arith in rw e g
+three_done row (x ∷ y ∷ z ∷ l) g h m = absurd (omega arith)
 
 pub ruleset threes = (rules, three_turn, three_stop, three_done)
 
@@ -217,26 +212,15 @@ threes_length (x ∷ y ∷ z ∷ l) e =
     let r : length l ≡ length l / 3 * 3 = threes_length l ((and-eq-true_iff (leb z 65535) (in_threes l)).0 e).1 in
     omega arith
 
--- A row that is copied
+-- A row that is laid into the pool: `copy_from_slice` writes it over so many numbers
 
--- the loop's invariant: what is left of the row, written from here, gives what all of it gives
-abbrev pub Copying : List ℕ → ℕ → List ℕ → ℕ → ℕ → List ℕ → Type 0
-Copying row at old i m out = (i ≤ length row) × Going row at old (drop i row) m out
+pub laid-part : (at n : ℕ) (w xs : List ℕ) → n ≡ length xs → at + n ≤ length w → put_mid at n w xs ≡ lay at xs w
+unfolding lay
+laid-part at n w xs h l =
+    ap (λ (k : ℕ). take at w ++ (xs ++ drop k (drop at w))) h
+    ∙ ap (λ (ys : List ℕ). take at w ++ ys) (sym (over-front xs (drop at w) (omega (arith, length-drop at w))))
 
-module _ (row : List ℕ) (i : ℕ) {n : ℕ} {old : List ℕ} {m : ℕ} {out : List ℕ} (g : Going row n old (drop i row) m out) where
-  rest_open : i < length row → drop i row ≡ get_or row i 0 ∷ drop (i + 1) row
-  rest_open h = rw (add-one, drop-cons row i 0)
-
-  pub copy_place : i < length row → m < length out
-  copy_place h = going_place row n old (drop (i + 1) row) m out (get_or row i 0) (rw (rest_open h) at g)
-
-  pub copy_turn : i < length row → Going row n old (drop (i + 1) row) (m + 1) (set out m (get_or row i 0))
-  copy_turn h = going_put row n old (drop (i + 1) row) m out (get_or row i 0) (rw (rest_open h) at g)
-
-  pub copy_done : length row ≤ i → i ≤ length row → Put row n old m out
-  copy_done h k =
-      let e : i ≡ length row = omega arith in
-      let z : drop i row ≡ [] = rw (e, drop-length row) in
-      going_done row n old (rw z at g)
-
-pub ruleset copying = (rules, going_start, copy_place, copy_turn, copy_done, put_one, put_size_1)
+-- .. behind one number that is stored
+pub stored-part : (at n x : ℕ) (w xs : List ℕ) → n ≡ length xs → at + 1 + n ≤ length w → put_mid (at + 1) n (set w at x) xs ≡ lay at (x ∷ xs) w
+stored-part at n x w xs h l =
+    laid-part (at + 1) n (set w at x) xs h (omega (arith, length-set w at x)) ∙ lay_put at x xs w (omega arith)

@@ -3,11 +3,10 @@
 
 ghost use Rattle.std.specs.Prelude.{◌≡◌, ◌+◌, ◌*◌, ◌/◌, ◌^◌, ◌<◌, ◌≤◌, min, ◌∷◌, length, take, drop};
 ghost use Rattle.refusal.specs.Lists.{same_list, first_equal};
-ghost use Rattle.buffer.specs.Over.{Put};
 ghost use Rattle.pool_rows.specs.Pools.{wide, size_at, rows_from, after_rows, in_threes, append, find_or_append, intern, Interns};
 
 use pool_rows::refuse;
-use refusal::{FIELD, NONE, NOT_TABLE, ROOM, Refusal};
+use refusal::{FIELD, NOT_TABLE, ROOM, Refusal};
 
 // The place behind a row of `count` ranges.
 fn row_end(at: usize, count: u32) -> usize
@@ -21,31 +20,14 @@ fn row_end(at: usize, count: u32) -> usize
 fn rows_end(pool: &[u32], rows: usize) -> usize
     ensures { min (1 + length pool.now) result ≡ min (1 + length pool.now) (after_rows wide pool.now rows 0) }
 {
-    let mut left = rows;
     let mut at = 0;
-    while 0 < left {
+    for _ in 0..rows {
         if pool.len() <= at {
             return pool.len() + 1;
         }
         at = row_end(at, pool[at]);
-        left -= 1;
     }
     at
-}
-
-// Do the pool's numbers from a place on begin with these?
-fn same_ranges(pool: &[u32], at: usize, row: &[u32]) -> bool
-    requires { at + length row.now ≤ length pool.now }
-    ensures { result ≡ same_list (take (length row.now) (drop at pool.now)) row.now }
-{
-    let mut j = 0;
-    while j < row.len() {
-        if pool[at + j] != row[j] {
-            return false;
-        }
-        j += 1;
-    }
-    true
 }
 
 // Is the wide row at a place of the pool this one, of `count` ranges?
@@ -54,10 +36,7 @@ fn same_at(pool: &[u32], at: usize, count: u32, row: &[u32]) -> bool
     requires size { length row.now ≡ count * 3 }
     ensures { result ≡ same_list (take (size_at wide pool.now at) (drop at pool.now)) (count ∷ row.now) }
 {
-    if pool[at] != count {
-        return false;
-    }
-    same_ranges(pool, at + 1, row)
+    pool[at] == count && pool[at + 1..].starts_with(row)
 }
 
 // The number of the first equal row, or how many rows there are.
@@ -66,59 +45,29 @@ fn first_equal(pool: &[u32], rows: usize, count: u32, row: &[u32]) -> usize
     requires size { length row.now ≡ count * 3 }
     ensures { result ≡ first_equal (count ∷ row.now) (rows_from wide pool.now rows 0) }
 {
-    let mut left = rows;
     let mut at = 0;
-    let mut i = 0;
-    while 0 < left {
+    for i in 0..rows {
         if same_at(pool, at, count, row) {
             return i;
         }
         at = row_end(at, pool[at]);
-        left -= 1;
-        i += 1;
     }
-    i
+    rows
 }
 
 // Is it a row of ranges whose targets their field allows?
 fn in_threes(row: &[u32]) -> bool
     ensures { result ≡ in_threes row.now }
 {
-    let mut i = 0;
-    while 2 < row.len() - i {
-        if row[i + 2] > 65535 {
+    for range in row.chunks_exact(3) {
+        if range[2] > 65535 {
             return false;
         }
-        i += 3;
     }
-    row.len() == i
+    row.len() % 3 == 0
 }
 
-// Writes a row's numbers over the pool from a place on, and answers the place behind them.
-fn put_ranges(row: &[u32], pool: &mut [u32], at: usize) -> usize
-    requires { at + length row.now ≤ length pool.old }
-    ensures { Put row.now at pool.old result pool.new }
-{
-    let mut i = 0;
-    let mut m = at;
-    while i < row.len() {
-        pool[m] = row[i];
-        i += 1;
-        m += 1;
-    }
-    m
-}
-
-// Writes a row's count, and its ranges behind it.
-fn put_row(count: u32, row: &[u32], pool: &mut [u32], at: usize) -> usize
-    requires { at + 1 + length row.now ≤ length pool.old }
-    ensures { Put (count ∷ row.now) at pool.old result pool.new }
-{
-    pool[at] = count;
-    put_ranges(row, pool, at + 1)
-}
-
-// Appends a row behind the others, which end at a place, if there is room for it.
+// Appends a row behind the others, which end at a place, if there is room for it: its count, and its ranges behind it.
 fn append_row(
     pool: &mut [u32],
     rows: usize,
@@ -134,7 +83,8 @@ fn append_row(
     if pool.len() - end <= row.len() {
         return refuse(ROOM);
     }
-    put_row(count, row, pool, end);
+    pool[end] = count;
+    pool[end + 1..end + 1 + row.len()].copy_from_slice(row);
     Ok(rows)
 }
 
@@ -167,12 +117,11 @@ pub fn intern_wide(pool: &mut [u32], rows: usize, row: &[u32]) -> Result<usize, 
     if pool.len() < end {
         return refuse(NOT_TABLE);
     }
-    if in_threes(row) {
-        let count = row.len() / 3;
-        if count > (NONE as usize) {
-            return refuse(ROOM);
-        }
-        return find_or_append(pool, rows, end, count as u32, row);
+    if !in_threes(row) {
+        return refuse(FIELD);
     }
-    refuse(FIELD)
+    match u32::try_from(row.len() / 3) {
+        Ok(count) => find_or_append(pool, rows, end, count, row),
+        Err(_) => refuse(ROOM),
+    }
 }

@@ -1,29 +1,18 @@
-use Rattle.pool_rows.proofs.Rows.{finding}
+use native.Mathlib.Omega.{arith}
+use mathlib.Core.Path.{refl}
+use Rattle.pool_rows.specs.Pools.{ascii}
+use Rattle.pool_rows.proofs.Rows.{find_start, ascii_here, ascii_next, first_none}
+use Rattle.pool_rows.proofs.Answers.{ascii_within}
 use Rattle.pool_ascii.proofs.first_equal.Goals as goal
 
-pub loop-left-init : goal.loop-left-init
-loop-left-init c = search finding
+pub loop-i-init : goal.loop-i-init
+loop-i-init c = find_start ascii _ _ _ (ascii_within _ _ c.requires.within) (omega arith)
 
-pub same_at-requires : goal.same_at-requires
-same_at-requires c = record { within = search finding; size = search finding }
+pub returns-then-eq : goal.returns-then-eq
+returns-then-eq c = ascii_here _ _ _ _ c.loop-i.invariant (omega arith) c.eq.ensures refl c.if-eq.true
 
-pub returns-then-same_at : goal.returns-then-same_at
-returns-then-same_at c = search finding
-
-pub overflow_add-at : goal.overflow_add-at
-overflow_add-at c = search finding
-
-pub overflow_sub-left : goal.overflow_sub-left
-overflow_sub-left c = search finding
-
-pub overflow_add-i : goal.overflow_add-i
-overflow_add-i c = search finding
-
-pub loop-left-smaller : goal.loop-left-smaller
-loop-left-smaller c = search finding
-
-pub loop-left-preserved : goal.loop-left-preserved
-loop-left-preserved c = search finding
+pub loop-i-preserved : goal.loop-i-preserved
+loop-i-preserved c = ascii_next _ _ _ _ c.loop-i.invariant (omega arith) c.eq.ensures refl c.if-eq.false
 
 pub returns : goal.returns
-returns c = search finding
+returns c = first_none ascii _ _ _ _ _ c.loop-i.invariant.0 (omega arith) (omega arith)

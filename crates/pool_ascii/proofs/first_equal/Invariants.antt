@@ -1,10 +1,8 @@
 -- The first equal row stands as far behind as it does from here.
+use Prim.Native.Nat.{◌*◌}
 use Rattle.pool_rows.specs.Pools.{ascii}
 use Rattle.pool_rows.proofs.Rows.{Finding}
 use Rattle.pool_ascii.proofs.first_equal.Given as goal
 
-abbrev pub invariant-loop-left : goal.invariant-loop-left
-invariant-loop-left l = Finding ascii l.pool l.rows l.row l.left l.at l.i
-
-abbrev pub decreases-loop-left : goal.decreases-loop-left
-decreases-loop-left l = l.left
+abbrev pub invariant-loop-i : goal.invariant-loop-i
+invariant-loop-i l = Finding ascii l.pool l.rows l.row l.i (l.i * 128)

@@ -1,35 +1,28 @@
-use Rattle.pool_rows.proofs.Rows.{finding}
+use native.Mathlib.Omega.{arith}
+use Rattle.pool_rows.specs.Pools.{wide}
+use Rattle.pool_rows.proofs.Rows.{counts, row_within, rows_within, first_here, first_next, first_none}
 use Rattle.pool_wide.proofs.first_equal.Goals as goal
 
-pub loop-left-init : goal.loop-left-init
-loop-left-init c = search finding
-
-pub same_at-requires : goal.same_at-requires
-same_at-requires c = record { within = search finding; size = search finding }
+pub same_at-requires-clause-within : goal.same_at-requires-clause-within
+same_at-requires-clause-within c = row_within wide _ _ _ _ (omega arith) c.loop-i.invariant.1
 
 pub returns-then-same_at : goal.returns-then-same_at
-returns-then-same_at c = search finding
+returns-then-same_at c = first_here wide _ _ _ _ _ c.loop-i.invariant.0 (omega arith) c.same_at.ensures c.if-same_at.true
 
 pub offset_bounds-pool-at : goal.offset_bounds-pool-at
-offset_bounds-pool-at c = search finding
+offset_bounds-pool-at c = search counts
 
 pub bounds-pool-at : goal.bounds-pool-at
-bounds-pool-at c = search finding
+bounds-pool-at c = search counts
 
 pub row_end-at-requires : goal.row_end-at-requires
-row_end-at-requires c = search finding
+row_end-at-requires c = search counts
 
-pub overflow_sub-left : goal.overflow_sub-left
-overflow_sub-left c = search finding
-
-pub overflow_add-i : goal.overflow_add-i
-overflow_add-i c = search finding
-
-pub loop-left-smaller : goal.loop-left-smaller
-loop-left-smaller c = search finding
-
-pub loop-left-preserved : goal.loop-left-preserved
-loop-left-preserved c = search finding
+pub loop-i-preserved : goal.loop-i-preserved
+loop-i-preserved c = (
+  first_next wide _ _ _ _ _ c.loop-i.invariant.0 (omega arith) c.same_at.ensures c.if-same_at.false c.row_end-at.ensures,
+  rows_within wide _ _ _ _ (omega arith) c.loop-i.invariant.1 c.row_end-at.ensures,
+)
 
 pub returns : goal.returns
-returns c = search finding
+returns c = first_none wide _ _ _ _ _ c.loop-i.invariant.0 (omega arith) (omega arith)

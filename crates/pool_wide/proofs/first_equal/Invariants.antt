@@ -4,8 +4,5 @@ use Rattle.pool_rows.specs.Pools.{wide}
 use Rattle.pool_rows.proofs.Rows.{Finding}
 use Rattle.pool_wide.proofs.first_equal.Given as goal
 
-abbrev pub invariant-loop-left : goal.invariant-loop-left
-invariant-loop-left l = Finding wide l.pool l.rows (l.count ∷ l.row) l.left l.at l.i
-
-abbrev pub decreases-loop-left : goal.decreases-loop-left
-decreases-loop-left l = l.left
+abbrev pub invariant-loop-i : goal.invariant-loop-i
+invariant-loop-i l = Finding wide l.pool l.rows (l.count ∷ l.row) l.i l.at

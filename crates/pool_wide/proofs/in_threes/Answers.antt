@@ -1,32 +1,24 @@
-use Rattle.pool_rows.proofs.Rows.{threes}
+use mathlib.Core.Path.{◌∙◌}
+use native.Mathlib.Omega.{arith}
+use Rattle.pool_rows.proofs.Rows.{three_turn, three_stop, three_left, three_done}
 use Rattle.pool_wide.proofs.in_threes.Goals as goal
 
-pub loop-i-init : goal.loop-i-init
-loop-i-init c = search threes
+pub returns-then-range-gt65535 : goal.returns-then-range-gt65535
+returns-then-range-gt65535 c =
+    let s = c.in-Some.ensures.steps in
+    three_stop _ _ s.1.0 (s.1.1 ∙ c.loop-range.invariant.0) c.loop-range.invariant.2 c.if-range-gt65535.true
 
-pub overflow_sub-row : goal.overflow_sub-row
-overflow_sub-row c = search threes
-
-pub overflow_add-i : goal.overflow_add-i
-overflow_add-i c = search threes
-
-pub offset_bounds-row-i : goal.offset_bounds-row-i
-offset_bounds-row-i c = search threes
-
-pub bounds-row-i : goal.bounds-row-i
-bounds-row-i c = search threes
-
-pub returns-then-row-i-gt65535 : goal.returns-then-row-i-gt65535
-returns-then-row-i-gt65535 c = search threes
-
-pub overflow_add-i-in-loop-i : goal.overflow_add-i-in-loop-i
-overflow_add-i-in-loop-i c = search threes
-
-pub loop-i-smaller : goal.loop-i-smaller
-loop-i-smaller c = search threes
-
-pub loop-i-preserved : goal.loop-i-preserved
-loop-i-preserved c = search threes
+pub loop-range-preserved : goal.loop-range-preserved
+loop-range-preserved c =
+    let s = c.in-Some.ensures.steps in
+    let three = s.1.1 ∙ c.loop-range.invariant.0 in (
+      s.0 ∙ c.loop-range.invariant.0,
+      tt,
+      three_turn _ _ s.1.0 three c.loop-range.invariant.2 c.if-range-gt65535.false,
+      three_left _ _ s.1.0 three c.loop-range.invariant.3,
+    )
 
 pub returns : goal.returns
-returns c = search threes
+returns c =
+    let i = c.loop-range.invariant in
+    three_done _ _ i.2 (omega (arith, c.in-None.ensures.steps.1.0, i.0)) i.3

@@ -1,51 +1,23 @@
 -- Each answer is the case that the tests on the way say.
-use Rattle.pool_rows.proofs.Answers.{answering-wide}
+use native.Mathlib.Omega.{arith}
+use Rattle.pool_rows.proofs.Answers.{answering-wide, wide_length, wide_into, wide_many}
 use Rattle.pool_wide.proofs.intern_wide.Goals as goal
-
-pub rows_end-end-requires : goal.rows_end-end-requires
-rows_end-end-requires c = search answering-wide
-
-pub refuse-requires : goal.refuse-requires
-refuse-requires c = search answering-wide
-
-pub shape_of-pool-then-pool-end : goal.shape_of-pool-then-pool-end
-shape_of-pool-then-pool-end c = search answering-wide
 
 pub returns-then-pool-end : goal.returns-then-pool-end
 returns-then-pool-end c = search answering-wide
 
-pub in_threes-requires : goal.in_threes-requires
-in_threes-requires c = search answering-wide
+pub returns-then-not-in_threes : goal.returns-then-not-in_threes
+returns-then-not-in_threes c = search answering-wide
 
-pub overflow_cast-t-11 : goal.overflow_cast-t-11
-overflow_cast-t-11 c = search answering-wide
+pub find_or_append-requires-clause-size : goal.find_or_append-requires-clause-size
+find_or_append-requires-clause-size c = omega (arith, wide_length _ c.in_threes.ensures c.if-not-in_threes.false, c.in-Ok.ensures.1)
 
-pub refuse-requires-then-count : goal.refuse-requires-then-count
-refuse-requires-then-count c = search answering-wide
+pub returns-in-Ok : goal.returns-in-Ok
+returns-in-Ok c =
+    wide_into _ _ _ c.rows_end-end.ensures (omega arith) c.in_threes.ensures c.if-not-in_threes.false (omega (arith, c.in-Ok.ensures.0))
+    c.find_or_append.ensures
 
-pub shape_of-pool-then-count : goal.shape_of-pool-then-count
-shape_of-pool-then-count c = search answering-wide
-
-pub returns-then-count : goal.returns-then-count
-returns-then-count c = search answering-wide
-
-pub overflow_cast-count : goal.overflow_cast-count
-overflow_cast-count c = search answering-wide
-
-pub find_or_append-requires : goal.find_or_append-requires
-find_or_append-requires c = record { within = search answering-wide; ends = search answering-wide; counts = search answering-wide; size = search answering-wide }
-
-pub shape_of-pool-then-in_threes : goal.shape_of-pool-then-in_threes
-shape_of-pool-then-in_threes c = search answering-wide
-
-pub returns-then-in_threes : goal.returns-then-in_threes
-returns-then-in_threes c = search answering-wide
-
-pub refuse-requires-2 : goal.refuse-requires-2
-refuse-requires-2 c = search answering-wide
-
-pub shape_of-pool : goal.shape_of-pool
-shape_of-pool c = search answering-wide
-
-pub returns : goal.returns
-returns c = search answering-wide
+pub returns-in-Err : goal.returns-in-Err
+returns-in-Err c =
+    wide_many _ _ _ c.rows_end-end.ensures (omega arith) c.in_threes.ensures c.if-not-in_threes.false (omega (arith, c.in-Err.ensures))
+    c.refuse-in-Err.ensures
