@@ -3,7 +3,7 @@ use Prim.Native.Nat.{ℕ, zero, suc, ◌+◌, ◌*◌, ◌-◌, ◌≤◌}
 use native.Mathlib.Omega.{arith}
 use mathlib.Core.Path.{◌≡◌, refl, ap}
 use mathlib.Core.List.{List, ◌++◌}
-use lib.ListN.{length, get_or, take, drop, length-append, length-drop}
+use lib.ListN.{length, get_or, drop, length-append, length-drop}
 use lib.Seq.{length-take-le}
 use Rattle.refusal.specs.Lists.{each}
 use Rattle.word_reader.specs.declared.Place.{Place}
@@ -43,11 +43,11 @@ renewed-sized : (f : List ℕ → ℕ → Place) (g : List ℕ → ℕ → List 
 unfolding renewed
 renewed-sized f g w sized at p e = omega (arith, each-sized (f w) (g w) sized (get_or w at 0) (at + 1) p (section_in f w at p e).1)
 
-accept-sized-made : (w : List ℕ) → Sized (accept_at w) (accept_made w)
+pub accept-sized-made : (w : List ℕ) → Sized (accept_at w) (accept_made w)
 unfolding accept_made
 accept-sized-made w a p e = let r = accept-sized w a p e in omega (arith, copied-length w (a + 2) (get_or w (a + 2) 0 * 3 + 1) (omega arith))
 
-config_sized_made : (w : List ℕ) → Sized (config_at w) (config_made w)
+pub config_sized_made : (w : List ℕ) → Sized (config_at w) (config_made w)
 unfolding config_made
 config_sized_made w a p e = let r = config_sized w a p e in omega (arith, copied-length w (a + 4) (get_or w (a + 5) 0 * 3 + 2) (omega arith))
 

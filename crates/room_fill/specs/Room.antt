@@ -1,6 +1,6 @@
 -- The room of a table: a header of nine numbers, the words with flags made 0 or 1, and where each record of variable length starts.
 -- Below, w are the words, and s the places of the counts of their sections. Assumes nothing.
-use Rattle.std.specs.Prelude.{ℕ, zero, suc, ◌+◌, ◌*◌, ◌-◌, List, [], ◌∷◌, ◌++◌, length, get_or, take, drop, eqb}
+use Rattle.std.specs.Prelude.{ℕ, zero, suc, ◌+◌, ◌*◌, ◌-◌, List, [], ◌∷◌, ◌++◌, length, get_or, take, drop, eqb, map}
 use Rattle.refusal.specs.Lists.{pick, each}
 use Rattle.refusal.specs.Header.{HEADER-NUMBERS}
 use Rattle.word_reader.specs.declared.Place.{Place}
@@ -69,12 +69,13 @@ shifted p = in_room p ∷ []
 unfoldable pub placed : (List ℕ → ℕ → Place) → List ℕ → ℕ → List ℕ
 placed read w at = each shifted (starts (read w) (get_or w at 0) (at + 1))
 
-abbrev pub four : ℕ → ℕ → ℕ → ℕ → List ℕ
-four a b c d = in_room a ∷ in_room b ∷ in_room c ∷ in_room d ∷ []
+-- the places of the sections' counts
+abbrev pub eight : Sections → List ℕ
+eight s = s.modes ∷ s.states ∷ s.runs ∷ s.ascii ∷ s.wide ∷ s.accepts ∷ s.escapes ∷ s.continuations ∷ []
 
 -- the word count, and where the sections' counts stand
 unfoldable pub header : List ℕ → Sections → List ℕ
-header w s = length w ∷ (four s.modes s.states s.runs s.ascii ++ four s.wide s.accepts s.escapes s.continuations)
+header w s = length w ∷ map in_room (eight s)
 
 -- where the accepts, the escape rows and the continuations start
 abbrev pub later_places : List ℕ → Sections → List ℕ
