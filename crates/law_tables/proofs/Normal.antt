@@ -10,7 +10,7 @@ use lib.Seq.{take_at}
 use Rattle.refusal.specs.Fixed.{tag}
 use Rattle.refusal.specs.Lists.{pick, each}
 use Rattle.refusal.specs.Header.{HEADER-NUMBERS}
-use Rattle.word_reader.specs.declared.Place.{Place}
+use Rattle.word_reader.specs.Parse.{Place}
 use Rattle.room_fill.specs.Room.{starts_from, starts, copied, flag, renewed, accept_made, config_made}
 use Rattle.room_fill.specs.Room.{continuation_made, made, in_room, shifted, placed, header, numbers}
 use Rattle.law_tables.specs.Table.{Table, Accept, Config, Continuation, Fields, ContinuationFields, All, counted, section_words, words_of, mode_words}

@@ -10,9 +10,8 @@ use lib.Dec.{eqb}
 use Rattle.refusal.specs.Lists.{pick}
 use lib.ListN.{length, get_or, take, drop, length-append, length-take, length-drop}
 use lib.Seq.{drop-cons, take_all}
-use Rattle.std.specs.Prelude.{map}
+use Rattle.std.specs.Prelude.{map, Ok}
 use Rattle.std.proofs.lemmas.List.{length-map}
-use Rattle.word_reader.specs.declared.Place.TheVariants.{Next}
 use Rattle.word_reader.specs.Records.{accept_at, config_at, continuation_at}
 use Rattle.word_reader.proofs.Bounds.{accept-sized, config_sized, configs_behind, section_in}
 use Rattle.buffer.specs.Over.{Put}
@@ -71,7 +70,7 @@ flagged_put k l n d h r p q t =
     ))
 
 module _ (w : List ℕ) (at behind : ℕ) where
-  module _ (e : accept_at w at ≡ Next behind) where
+  module _ (e : accept_at w at ≡ Ok behind) where
     pub accept_is : flagged 1 (take (behind - at) (drop at w)) ≡ accept_made w at
     unfolding flagged accept_made copied
     accept_is =
@@ -86,7 +85,7 @@ module _ (w : List ℕ) (at behind : ℕ) where
         let l = part_length w at behind r.1 in
         record { order = omega arith; within = r.1; flags = omega arith; long = omega (arith, accept-sized-made w at behind e) }
 
-  module _ (e : config_at w at ≡ Next behind) where
+  module _ (e : config_at w at ≡ Ok behind) where
     pub config_is : flagged 2 (take (behind - at) (drop at w)) ≡ config_made w at
     unfolding flagged config_made copied
     config_is =
@@ -114,7 +113,7 @@ module _ (w : List ℕ) (at behind : ℕ) where
 
 -- A continuation: its contexts take k words
 
-module _ (w : List ℕ) (at : ℕ) {behind : ℕ} (e : continuation_at w at ≡ Next behind) where
+module _ (w : List ℕ) (at : ℕ) {behind : ℕ} (e : continuation_at w at ≡ Ok behind) where
   abbrev k : ℕ
   k = get_or w at 0 * 3 + 1
 

@@ -5,10 +5,9 @@ use mathlib.Core.Path.{◌≡◌, sym, ap, ◌∙◌}
 use mathlib.Core.List.{List, [], ◌∷◌}
 use borrow.Author.Rules.{rules}
 use lib.ListN.{length, set, length-replicate}
-use Rattle.std.specs.Prelude.{map}
+use Rattle.std.specs.Prelude.{map, Ok, Err}
 use Rattle.word_reader.specs.declared.Sections.{Sections}
-use Rattle.word_layout.specs.declared.Layout.{Layout}
-use Rattle.word_layout.specs.declared.Layout.TheVariants.{Found, Unfound}
+use Rattle.word_layout.specs.Layout.{Layout}
 use Rattle.word_layout.specs.Layout.{layout_of}
 use Rattle.word_layout.proofs.Found.{there}
 use Rattle.word_layout.specs.Limits.{laid_out}
@@ -43,7 +42,7 @@ pub ruleset heading = (rules, there, few)
 
 -- The whole table
 
-module _ (w : List ℕ) {s : Sections} (d : List ℕ) (h : layout_of w ≡ Found s) (k : length w ≤ 8192) (l : 16384 ≤ length d) where
+module _ (w : List ℕ) {s : Sections} (d : List ℕ) (h : layout_of w ≡ Ok s) (k : length w ≤ 8192) (l : 16384 ≤ length d) where
   table_fits : 0 + length (numbers w s) ≤ length d
   table_fits = omega (arith, numbers-length w h)
 
@@ -70,12 +69,12 @@ module _ (w : List ℕ) (n : ℕ) {d : List ℕ} where
   pub same_laid : {got : Layout} → d ≡ zeros n → got ≡ laid_out w (length d) → got ≡ laid_out w n
   same_laid z g = rw (← cleared z) g
 
-  pub none_left : (r : Refusal) → d ≡ zeros n → d ≡ room_for w n (Unfound r)
+  pub none_left : (r : Refusal) → d ≡ zeros n → d ≡ room_for w n (Err r)
   unfolding room_for
   none_left r z = z
 
-  pub all_there : {s : Sections} {k : ℕ} {new : List ℕ} {got : Layout} → Put (numbers w s) 0 d k new → got ≡ Found s → got ≡ laid_out w (length d) → d ≡ zeros n
-      → new ≡ room_for w n (Found s)
+  pub all_there : {s : Sections} {k : ℕ} {new : List ℕ} {got : Layout} → Put (numbers w s) 0 d k new → got ≡ Ok s → got ≡ laid_out w (length d) → d ≡ zeros n
+      → new ≡ room_for w n (Ok s)
   unfolding room_for
   all_there {s} p i g z =
       let o = kept w (length d) (sym g ∙ i) in
@@ -83,8 +82,8 @@ module _ (w : List ℕ) (n : ℕ) {d : List ℕ} where
       p.is ∙ (rw (z, lay-zeros n (numbers w s) l))
 
 -- the sections that were found, within the limits
-module _ (w d : List ℕ) {s : Sections} {got : Layout} (g : got ≡ laid_out w (length d)) (i : got ≡ Found s) where
-  pub is_laid : layout_of w ≡ Found s
+module _ (w d : List ℕ) {s : Sections} {got : Layout} (g : got ≡ laid_out w (length d)) (i : got ≡ Ok s) where
+  pub is_laid : layout_of w ≡ Ok s
   is_laid = (kept w (length d) (sym g ∙ i)).laid
 
   pub within_limit : length w ≤ 8192

@@ -8,12 +8,11 @@ use borrow.Author.Rules.{rules}
 use borrow.Rule.Slice.PartMut.{put_mid}
 use lib.ListN.{length, get_or, drop, set, length-set, length-drop, drop_of_length-le}
 use lib.Seq.{drop-cons}
-use Rattle.std.specs.Prelude.{map}
+use Rattle.std.specs.Prelude.{map, Ok, Err}
 use Rattle.std.proofs.lemmas.List.{length-map}
 use Rattle.refusal.specs.declared.Refusal.{Refusal}
 use Rattle.refusal.specs.Lists.{each}
-use Rattle.word_reader.specs.declared.Place.{Place}
-use Rattle.word_reader.specs.declared.Place.TheVariants.{Next, Refused}
+use Rattle.word_reader.specs.Parse.{Place}
 use Rattle.word_sections.specs.declared.Kind.{Kind}
 use Rattle.word_sections.specs.Kinds.{record_at}
 use Rattle.word_sections.proofs.Laws.{record_in_lem}
@@ -58,12 +57,12 @@ mapped_start f xs n old h = let i : n + 0 ≡ n = omega arith in rw i (going_sta
 -- Records: f writes for the record that g reads; count - i of them are left
 
 module _ (f : ℕ → List ℕ) (g : ℕ → Place) (count i here : ℕ) where
-  each_open : {p : ℕ} {got : Place} → i < count → got ≡ g here → got ≡ Next p
+  each_open : {p : ℕ} {got : Place} → i < count → got ≡ g here → got ≡ Ok p
       → each f (starts g (count - i) here) ≡ f here ++ each f (starts g (count - (i + 1)) p)
   unfolding each starts starts_from
   each_open h e k = let j : count - i ≡ suc (count - (i + 1)) = omega arith in rw (j, ← e, k)
 
-  each_stop : {r : Refusal} {got : Place} → i < count → got ≡ g here → got ≡ Refused r → each f (starts g (count - i) here) ≡ []
+  each_stop : {r : Refusal} {got : Place} → i < count → got ≡ g here → got ≡ Err r → each f (starts g (count - i) here) ≡ []
   unfolding each starts starts_from
   each_stop h e k = let j : count - i ≡ suc (count - (i + 1)) = omega arith in rw (j, ← e, k)
 
@@ -72,22 +71,29 @@ module _ (f : ℕ → List ℕ) (g : ℕ → Place) (count i here : ℕ) where
   each_done h = let j : count - i ≡ 0 = omega arith in rw j
 
   module _ {xs : List ℕ} {n : ℕ} {old : List ℕ} {m : ℕ} {out : List ℕ} (k : Going xs n old (each f (starts g (count - i) here)) m out) where
-    module _ {p : ℕ} {got : Place} (h : i < count) (e : got ≡ g here) (j : got ≡ Next p) where
+    module _ {p : ℕ} {got : Place} (h : i < count) (e : got ≡ g here) (j : got ≡ Ok p) where
       pub record_room : m + length (f here) ≤ length out
       record_room = going_room xs n old (each f (starts g (count - (i + 1)) p)) m out (f here) (rw (each_open h e j) at k)
 
       pub record_turn : {r : ℕ} {new : List ℕ} → Put (f here) m out r new → Going xs n old (each f (starts g (count - (i + 1)) p)) r new
       record_turn t = going_turn xs n old (each f (starts g (count - (i + 1)) p)) m out (f here) t (rw (each_open h e j) at k)
 
-    pub record_stop : {r : Refusal} {got : Place} → i < count → got ≡ g here → got ≡ Refused r → Put xs n old m out
+    record_stop : {r : Refusal} {got : Place} → i < count → got ≡ g here → got ≡ Err r → Put xs n old m out
     record_stop h e j = going_done xs n old (rw (each_stop h e j) at k)
+
+    pub record_none : {got : Place} → i < count → got ≡ g here → ((p : ℕ) → got ≡ Ok p → ⊥) → Put xs n old m out
+    record_none {got} h e q = go got refl
+      where
+        go : (o : Place) → got ≡ o → Put xs n old m out
+        go (Ok p) z = absurd (q p z)
+        go (Err r) z = record_stop h e z
 
     pub record_done : count ≤ i → Put xs n old m out
     record_done h = going_done xs n old (rw (each_done h) at k)
 
 -- a place for each record
 module _ (g : ℕ → Place) (count i here : ℕ) {xs : List ℕ} {n : ℕ} {old : List ℕ} {m : ℕ} {out : List ℕ} {p : ℕ} {got : Place}
-    (k : Going xs n old (each shifted (starts g (count - i) here)) m out) (h : i < count) (e : got ≡ g here) (j : got ≡ Next p) where
+    (k : Going xs n old (each shifted (starts g (count - i) here)) m out) (h : i < count) (e : got ≡ g here) (j : got ≡ Ok p) where
   pub place_room : m < length out
   place_room = omega (arith, record_room shifted g count i here k h e j)
 
@@ -95,7 +101,7 @@ module _ (g : ℕ → Place) (count i here : ℕ) {xs : List ℕ} {n : ℕ} {old
   place_turn o = rw o (going_put xs n old (each shifted (starts g (count - (i + 1)) p)) m out (in_room here) (rw (each_open shifted g count i here h e j) at k))
 
 -- a record that was read starts within the words
-pub record_limit : (k : Kind) (w : List ℕ) (here : ℕ) {p : ℕ} {got : Place} → got ≡ record_at k w here → got ≡ Next p → length w ≤ 8192 → here ≤ 8192
+pub record_limit : (k : Kind) (w : List ℕ) (here : ℕ) {p : ℕ} {got : Place} → got ≡ record_at k w here → got ≡ Ok p → length w ≤ 8192 → here ≤ 8192
 record_limit k w here {p} e i h = omega (arith, record_in_lem k w here p (sym e ∙ i))
 
 -- A section: its count, and its records
@@ -127,6 +133,6 @@ module _ (read : List ℕ → ℕ → Place) (w : List ℕ) (at n : ℕ) (d : Li
 -- what the loops are left with
 pub ruleset storing = (rules, mapped_start, mapped_place, mapped_turn, mapped_done)
 
-pub ruleset recording = (rules, section_first, section_start, section_put, record_room, record_turn, record_stop, record_done)
+pub ruleset recording = (rules, section_first, section_start, section_put, record_room, record_turn, record_none, record_done)
 
-pub ruleset placing = (rules, places_start, place_room, place_turn, record_stop, record_done, record_limit)
+pub ruleset placing = (rules, places_start, place_room, place_turn, record_none, record_done, record_limit)

@@ -5,7 +5,6 @@ ghost use Rattle.buffer.specs.Over.{Put};
 ghost use Rattle.room_fill.specs.Room.{in_room, placed};
 
 use refusal::HEADER_NUMBERS;
-use word_reader::Place;
 use word_sections::Kind;
 
 // The place in the room of what is at `at` of the words, which stand behind the header.
@@ -32,16 +31,12 @@ pub(crate) fn put_record_places(
     let mut here = at + 1;
     let mut m = n;
     for _i in 0..words[at] {
-        match word_sections::read_record(kind, words, here) {
-            Place::Next(p) => {
-                room[m] = in_room(here);
-                m += 1;
-                here = p;
-            }
-            Place::Refused(_) => {
-                return m;
-            }
-        }
+        let Ok(behind) = word_sections::read_record(kind, words, here) else {
+            return m;
+        };
+        room[m] = in_room(here);
+        m += 1;
+        here = behind;
     }
     m
 }

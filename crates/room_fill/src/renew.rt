@@ -1,14 +1,13 @@
 // Writes the words of a table, flags made 0 or 1, section by section. Each function writes from place `n` of the room on and answers the
 // place behind what it wrote.
-ghost use Rattle.std.specs.Prelude.{◌≡◌, ◌≤◌, ◌<◌, ◌+◌, ◌*◌, ℕ, List, length, map};
-ghost use Rattle.word_reader.specs.declared.Place.{Place};
-ghost use Rattle.word_reader.specs.declared.Place.TheVariants.{Next};
+ghost use Rattle.std.specs.Prelude.{◌≡◌, ◌≤◌, ◌<◌, ◌+◌, ◌*◌, ℕ, List, length, map, Ok};
+ghost use Rattle.word_reader.specs.Parse.{Place};
 ghost use Rattle.word_reader.specs.Records.{accept_at, config_at, continuation_at};
 ghost use Rattle.buffer.specs.Over.{Put};
 ghost use Rattle.room_fill.specs.Room.{flag, renewed, accept_made, config_made, continuation_made};
 ghost use Rattle.room_fill.specs.Flagged.{flagged};
 
-use word_reader::Place;
+use refusal::Refusal;
 
 // A kind of record that has flags: how one is read, and how it is written.
 pub(crate) trait Renewed {
@@ -16,12 +15,12 @@ pub(crate) trait Renewed {
 
     ghost made: { List ℕ → ℕ → List ℕ };
 
-    fn read(words: &[u32], at: usize) -> Place
+    fn read(words: &[u32], at: usize) -> Result<usize, Refusal>
         ensures { result ≡ ends words.now at };
 
     // The record at `at`, which ends at `behind`.
     fn put(words: &[u32], at: usize, behind: usize, room: &mut [u32], n: usize) -> usize
-        requires read { ends words.now at ≡ Next behind }
+        requires read { ends words.now at ≡ Ok behind }
         requires fits { n + length (made words.now at) ≤ length room.old }
         ensures { Put (made words.now at) n room.old result room.new };
 }
@@ -38,7 +37,7 @@ impl Renewed for Accept {
 
     ghost made = { accept_made };
 
-    fn read(words: &[u32], at: usize) -> Place {
+    fn read(words: &[u32], at: usize) -> Result<usize, Refusal> {
         word_records::read_accept(words, at)
     }
 
@@ -53,7 +52,7 @@ impl Renewed for Config {
 
     ghost made = { config_made };
 
-    fn read(words: &[u32], at: usize) -> Place {
+    fn read(words: &[u32], at: usize) -> Result<usize, Refusal> {
         word_records::read_config(words, at)
     }
 
@@ -68,7 +67,7 @@ impl Renewed for Continuation {
 
     ghost made = { continuation_made };
 
-    fn read(words: &[u32], at: usize) -> Place {
+    fn read(words: &[u32], at: usize) -> Result<usize, Refusal> {
         word_records::read_continuation(words, at)
     }
 
@@ -127,15 +126,11 @@ pub(crate) fn renew<R: Renewed>(words: &[u32], at: usize, room: &mut [u32], n: u
     let mut here = at + 1;
     let mut m = n + 1;
     for _i in 0..words[at] {
-        match R::read(words, here) {
-            Place::Next(p) => {
-                m = R::put(words, here, p, room, m);
-                here = p;
-            }
-            Place::Refused(_) => {
-                return m;
-            }
-        }
+        let Ok(behind) = R::read(words, here) else {
+            return m;
+        };
+        m = R::put(words, here, behind, room, m);
+        here = behind;
     }
     m
 }

@@ -1,8 +1,7 @@
 // Writes all numbers of a table whose sections were found: the header, the words, the places. Each method but the first two writes from
 // place `n` of the room on; each answers the place behind what it wrote.
-ghost use Rattle.std.specs.Prelude.{◌≡◌, ◌≤◌, ◌+◌, length};
+ghost use Rattle.std.specs.Prelude.{◌≡◌, ◌≤◌, ◌+◌, length, Ok};
 ghost use Rattle.refusal.specs.Header.{HEADER-NUMBERS};
-ghost use Rattle.word_layout.specs.declared.Layout.TheVariants.{Found};
 ghost use Rattle.word_layout.specs.Layout.{layout_of};
 ghost use Rattle.buffer.specs.Over.{Put};
 ghost use Rattle.room_fill.specs.Room.{header, later_made, made, later_places, places, numbers};
@@ -18,7 +17,7 @@ use word_sections::Kind;
 pub(crate) struct Table<'a> {
     pub(crate) words: &'a [u32],
     pub(crate) sections: Sections,
-    ghost found: { layout_of words.now ≡ Found sections },
+    ghost found: { layout_of words.now ≡ Ok sections },
     ghost limit: { length words.now ≤ 8192 },
 }
 

@@ -8,8 +8,8 @@ invariant_of-put c = search filling
 pub put-requires : goal.put-requires
 put-requires c = search filling
 
-pub returns-in-Found : goal.returns-in-Found
-returns-in-Found c = (search filling, all_there _ _ c.put.ensures c.in-Found.is c.find_within_limits.ensures c.clear.ensures)
+pub returns-in_err-sections : goal.returns-in_err-sections
+returns-in_err-sections c = search filling
 
-pub returns-in-Unfound : goal.returns-in-Unfound
-returns-in-Unfound c = search filling
+pub returns : goal.returns
+returns c = (search filling, all_there _ _ c.put.ensures c.in_ok-sections.was c.find_within_limits.ensures c.clear.ensures)

@@ -10,11 +10,11 @@ in_room-requires c = search placing
 pub bounds-room-m : goal.bounds-room-m
 bounds-room-m c = search placing
 
-pub returns-in-Refused : goal.returns-in-Refused
-returns-in-Refused c = search placing
-
 pub loop-i-preserved : goal.loop-i-preserved
 loop-i-preserved c = search placing
 
 pub returns : goal.returns
 returns c = search placing
+
+pub returns-in_default : goal.returns-in_default
+returns-in_default c = search placing
