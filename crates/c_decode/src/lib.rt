@@ -6,6 +6,7 @@ ghost use Rattle.std.specs.Prelude.{◌≡◌, length};
 ghost use Rattle.room_decode.specs.Decode.{decode_of, room_of};
 ghost use Rattle.c_decode.specs.Answers.{decoded_in_c};
 
+use refusal::Refusal;
 use room_decode::Decoded;
 
 // A table by the number of its modes, states and words.
@@ -20,30 +21,28 @@ pub struct CDecoded {
     pub words: usize,
 }
 
-fn decoded_in_c(decoded: Decoded) -> CDecoded
-    ensures { result ≡ decoded_in_c decoded }
-{
-    match decoded {
-        Decoded::Table {
-            modes,
-            states,
-            words,
-        } => CDecoded {
-            number: 0,
-            item: 0,
-            place: 0,
-            modes,
-            states,
-            words,
-        },
-        Decoded::Refused(refusal) => CDecoded {
-            number: refusal.number,
-            item: refusal.item,
-            place: refusal.place,
-            modes: 0,
-            states: 0,
-            words: 0,
-        },
+impl From<Result<Decoded, Refusal>> for CDecoded {
+    ghost from_gives = { λ decoded c. c ≡ decoded_in_c decoded };
+
+    fn from(decoded: Result<Decoded, Refusal>) -> CDecoded {
+        match decoded {
+            Ok(table) => CDecoded {
+                number: 0,
+                item: 0,
+                place: 0,
+                modes: table.modes,
+                states: table.states,
+                words: table.words,
+            },
+            Err(refusal) => CDecoded {
+                number: refusal.number,
+                item: refusal.item,
+                place: refusal.place,
+                modes: 0,
+                states: 0,
+                words: 0,
+            },
+        }
     }
 }
 
@@ -53,5 +52,5 @@ pub extern "C" fn lexer_dfa_decode(words: &[u32], room: &mut [u32]) -> CDecoded
     ensures { (result ≡ decoded_in_c (decode_of words.now (length room.old)))
         × (room.new ≡ room_of words.now (length room.old)) }
 {
-    decoded_in_c(room_decode::decode(words, room))
+    room_decode::decode(words, room).into()
 }

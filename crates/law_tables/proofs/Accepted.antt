@@ -9,7 +9,7 @@ use lib.Dec.{eqb}
 use lib.ListN.{length}
 use borrow.Author.Tests.{eqb-true}
 use Rattle.refusal.specs.Lists.{pick}
-use Rattle.word_reader.specs.declared.Place.TheVariants.{Next}
+use Rattle.std.specs.Prelude.{Ok}
 use Rattle.word_reader.specs.Parse.{refused}
 use Rattle.refusal.specs.Fixed.{tag}
 use Rattle.law_tables.specs.Table.{Table, section_words, words_of, Fields}
@@ -52,13 +52,13 @@ sections = mapped
     (of_section continuation))))))))
 
 -- the words of a table are accepted, to the last
-pub words_accepted : (t : Table) → Fields t → whole_at (words_of t) ≡ Next (length (words_of t))
+pub words_accepted : (t : Table) → Fields t → whole_at (words_of t) ≡ Ok (length (words_of t))
 unfolding whole_at
 words_accepted t h =
     let w = words_of t in
     let a = on (tag ∷ []) (section_words t ++ []) (same (start w) (sym (append-nil w))) in
     let e : 1 + length (section_words t) ≡ suc (length (section_words t)) = omega arith in
-    word_reads (λ x. pick (eqb x tag) (sections_at w 1) (refused TAG 0)) (start w) ∙ sections.complete t w 1 [] h a ∙ ap Next e
+    word_reads (λ x. pick (eqb x tag) (sections_at w 1) (refused TAG 0)) (start w) ∙ sections.complete t w 1 [] h a ∙ ap Ok e
 
 -- nothing is left behind the last word
 pub none_left : {w rest : List ℕ} → At w (length w) rest → rest ≡ []
@@ -66,13 +66,13 @@ none_left {rest = []} a = refl
 none_left {rest = x ∷ l} a = absurd (omega (arith, at_length a))
 
 -- what is accepted, to the last word, is the words of a table
-pub accepted_words : (w : List ℕ) → Fit w → whole_at w ≡ Next (length w) → (t : Table) × Fields t × (w ≡ words_of t)
+pub accepted_words : (w : List ℕ) → Fit w → whole_at w ≡ Ok (length w) → (t : Table) × Fields t × (w ≡ words_of t)
 unfolding whole_at
 accepted_words w f l =
     let h = word_read (λ x. pick (eqb x tag) (sections_at w 1) (refused TAG 0)) (start w) l in
     go h.head h.tail h.opens (eqb h.head tag) refl h.reads
   where
-    go : (x : ℕ) (r : List ℕ) → w ≡ x ∷ r → (b : Bool) → eqb x tag ≡ b → pick b (sections_at w 1) (refused TAG 0) ≡ Next (length w)
+    go : (x : ℕ) (r : List ℕ) → w ≡ x ∷ r → (b : Bool) → eqb x tag ≡ b → pick b (sections_at w 1) (refused TAG 0) ≡ Ok (length w)
         → (t : Table) × Fields t × (w ≡ words_of t)
     go x r o false u e = let z : ◌≡◌ {A = ℕ} 0 1 = cc in absurd (omega arith)
     go x r o true u e =

@@ -11,13 +11,12 @@ use borrow.Author.Tests.{lt-ltb, ne_eqb}
 use Rattle.refusal.specs.Said.{TAG, LEFT}
 use Rattle.refusal.specs.Fixed.{tag}
 use Rattle.refusal.specs.Lists.{pick}
-use Rattle.word_reader.specs.declared.Place.{Place}
-use Rattle.word_reader.specs.declared.Place.TheVariants.{Next, Refused}
+use Rattle.word_reader.specs.Parse.{Place}
+use Rattle.std.specs.Prelude.{Ok, Err}
 use Rattle.word_reader.specs.declared.Sections.{Sections}
 use Rattle.word_reader.specs.Parse.{refused, and_then, word, section, both}
 use Rattle.word_reader.specs.Records.{mode_at, state_at, run_at, ascii_at, wide_at, accept_at, escape_at, continuation_at}
-use Rattle.word_layout.specs.declared.Layout.{Layout}
-use Rattle.word_layout.specs.declared.Layout.TheVariants.{Found, Unfound}
+use Rattle.word_layout.specs.Layout.{Layout}
 use Rattle.word_layout.specs.Layout.{unfound, sections_in, closed, layout_of}
 use Rattle.word_layout.specs.Layout.{after_modes, after_states, after_runs, after_ascii, after_wide, after_accepts, after_continuations}
 use Rattle.word_layout.proofs.Found.{tagged, modes_there, read_whole}
@@ -27,8 +26,8 @@ use Rattle.law_tables.proofs.Ends.{Reader}
 -- a section behind what was read before it
 step : (w : List ℕ) (x : Place) (f g : Reader) → and_then (and_then x (f w)) (g w) ≡ and_then x (both f g w)
 unfolding and_then both
-step w (Next p) f g = refl
-step w (Refused r) f g = refl
+step w (Ok p) f g = refl
+step w (Err r) f g = refl
 
 -- the sections are read the same
 sections_agree : (w : List ℕ) → after_continuations w ≡ sections_at w 1
@@ -47,24 +46,24 @@ sections_agree w =
     ∙ step w (after_runs w) (section ascii_at) v
     ∙ step w (after_states w) (section run_at) a
     ∙ step w (after_modes w) (section state_at) r
-    ∙ step w (Next 1) (section mode_at) s
+    ∙ step w (Ok 1) (section mode_at) s
 
 -- where the layout's answer ends
 abbrev pub as_place : List ℕ → Layout → Place
-as_place w (Found s) = Next (length w)
-as_place w (Unfound r) = Refused r
+as_place w (Ok s) = Ok (length w)
+as_place w (Err r) = Err r
 
 -- the whole, read to the last word
 abbrev pub to_last : List ℕ → Place → Place
-to_last w (Next p) = pick (ltb p (length w)) (refused LEFT p) (Next (length w))
-to_last w (Refused r) = Refused r
+to_last w (Ok p) = pick (ltb p (length w)) (refused LEFT p) (Ok (length w))
+to_last w (Err r) = Err r
 
 last : (w : List ℕ) (s : Sections) (x : Place) → as_place w (closed w s x) ≡ to_last w x
 unfolding closed
-last w s (Refused r) = refl
-last w s (Next p) = go (ltb p (length w))
+last w s (Err r) = refl
+last w s (Ok p) = go (ltb p (length w))
   where
-    go : (b : Bool) → as_place w (pick b (unfound LEFT p) (Found s)) ≡ pick b (refused LEFT p) (Next (length w))
+    go : (b : Bool) → as_place w (pick b (unfound LEFT p) (Ok s)) ≡ pick b (refused LEFT p) (Ok (length w))
     go true = refl
     go false = refl
 
@@ -81,6 +80,6 @@ agree (x ∷ r) = rw (ne_eqb (suc (length r)) 0 (omega arith), lt-ltb 0 (suc (le
     go false = refl
 
 -- where a layout is found, a whole table is read, to the last word
-pub found-whole : (w : List ℕ) {s : Sections} → layout_of w ≡ Found s → whole_at w ≡ Next (length w)
+pub found-whole : (w : List ℕ) {s : Sections} → layout_of w ≡ Ok s → whole_at w ≡ Ok (length w)
 unfolding whole_at word
 found-whole w l = rw (lt-ltb 0 (length w) (omega (arith, modes_there w l)), (tagged w l).0, ← sections_agree w) (read_whole w l)

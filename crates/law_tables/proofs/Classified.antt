@@ -18,7 +18,7 @@ use Rattle.run_shape.specs.declared.RunWords.{RunWords}
 use Rattle.run_shape.specs.Shape.{Shape, none, any, until, ranges, held}
 use Rattle.run_shape.specs.Classify.{exits_from, by_ranges, by_exits, classification}
 use Rattle.word_reader.specs.Records.{run_at}
-use Rattle.word_reader.specs.declared.Place.TheVariants.{Next}
+use Rattle.std.specs.Prelude.{Ok}
 use Rattle.rule_words.specs.Rules as words
 use Rattle.rule_words.specs.Rules.{stands, classified_words, run_good, row_number}
 use Rattle.law_tables.specs.Table.{Table, State, Fields, All, RunFields, packed, bytes, words_of, state_words, run_words, ascii_words}
@@ -235,7 +235,7 @@ module _ (t : Table) (h : Fields t) (r2 : Rule2 t) where
       let test = run_good w (states_place t) (ascii_place t) in
       let judges : (n : ℕ) (r : Shape) (p : ℕ) (q : List ℕ) → G n r → At w p (run_words r ++ q) → Judges (test n p) (Classified t n r)
       = λ n r p q g b. run_judges n r p q g.1 (omega (arith, g.1)) g.0 b in
-      let reads : (n : ℕ) (r : Shape) (p : ℕ) (q : List ℕ) → G n r → At w p (run_words r ++ q) → run_at w p ≡ Next (p + length (run_words r))
+      let reads : (n : ℕ) (r : Shape) (p : ℕ) (q : List ℕ) → G n r → At w p (run_words r ++ q) → run_at w p ≡ Ok (p + length (run_words r))
       = λ n r p q g b. run_codec.complete r w p q g.0 b in
       let b = on (length t.runs ∷ []) (each run_words t.runs ++ from_ascii t) (runs_stand t) in
       let v = counted_up (length t.states) 0 t.runs (omega arith) h.runs in

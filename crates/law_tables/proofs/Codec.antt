@@ -11,8 +11,8 @@ use lib.Seq.{get_or_at, drop_at, take_at, length-take-le}
 use borrow.Author.Tests.{lt-ltb, le-ltb, le-leb, leb-true}
 use Rattle.refusal.specs.Said.{FIELD}
 use Rattle.refusal.specs.Lists.{pick, each}
-use Rattle.word_reader.specs.declared.Place.{Place}
-use Rattle.word_reader.specs.declared.Place.TheVariants.{Next, Refused}
+use Rattle.word_reader.specs.Parse.{Place}
+use Rattle.std.specs.Prelude.{Ok, Err}
 use Rattle.word_reader.specs.Parse.{refused, short, and_then, word, fields, block, many, section, both}
 use Rattle.law_tables.specs.Table.{counted, All}
 use Rattle.law_tables.specs.Whole.{Fit}
@@ -32,8 +32,8 @@ pub record Split (A : Type 0) (words : A → List ℕ) (Valid : A → Type 0) (r
   pub ends : at + length (words item) ≡ p
 
 pub record Codec (A : Type 0) (read : List ℕ → ℕ → Place) (words : A → List ℕ) (Valid : A → Type 0) : Type 0 where
-  pub complete : (x : A) (w : List ℕ) (at : ℕ) (post : List ℕ) → Valid x → At w at (words x ++ post) → read w at ≡ Next (at + length (words x))
-  pub sound : (w : List ℕ) (at p : ℕ) (rest : List ℕ) → Fit w → At w at rest → read w at ≡ Next p → Split A words Valid rest at p
+  pub complete : (x : A) (w : List ℕ) (at : ℕ) (post : List ℕ) → Valid x → At w at (words x ++ post) → read w at ≡ Ok (at + length (words x))
+  pub sound : (w : List ℕ) (at p : ℕ) (rest : List ℕ) → Fit w → At w at rest → read w at ≡ Ok p → Split A words Valid rest at p
 
 -- Moving on
 
@@ -77,16 +77,16 @@ pub record Headed (rest : List ℕ) (k : ℕ → Place) (p : ℕ) : Type 0 where
   pub head : ℕ
   pub tail : List ℕ
   pub opens : rest ≡ head ∷ tail
-  pub reads : k head ≡ Next p
+  pub reads : k head ≡ Ok p
 
-word_never : {w : List ℕ} {at p : ℕ} (k : ℕ → Place) → At w at [] → word w at k ≡ Next p → ⊥
+word_never : {w : List ℕ} {at p : ℕ} (k : ℕ → Place) → At w at [] → word w at k ≡ Ok p → ⊥
 unfolding word
 word_never {w} {at} k a v =
     let h : length w ≤ at = omega (arith, at_length a) in
     let u = rw (le-ltb at (length w) h) at v in
     let z : ◌≡◌ {A = ℕ} 0 1 = cc in omega arith
 
-pub word_read : {w : List ℕ} {at p : ℕ} {rest : List ℕ} (k : ℕ → Place) → At w at rest → word w at k ≡ Next p → Headed rest k p
+pub word_read : {w : List ℕ} {at p : ℕ} {rest : List ℕ} (k : ℕ → Place) → At w at rest → word w at k ≡ Ok p → Headed rest k p
 word_read {rest = []} k a e = absurd (word_never k a e)
 word_read {rest = x ∷ r} k a e = record { head = x; tail = r; opens = refl; reads = sym (word_reads k a) ∙ e }
 
@@ -108,15 +108,15 @@ abbrev pub Always : {A : Type 0} → A → Type 0
 Always x = Unit {0}
 
 pub fields_complete : (ts : Tests) (v : Tuple ts) (w : List ℕ) (at : ℕ) (post : List ℕ) → At w at (flat ts v ++ post)
-    → fields ts w at ≡ Next (at + length (flat ts v))
+    → fields ts w at ≡ Ok (at + length (flat ts v))
 unfolding fields
-fields_complete [] v w at post a = ap Next (omega arith)
+fields_complete [] v w at post a = ap Ok (omega arith)
 fields_complete (t ∷ ts) v w at post a =
     let rest = fields_complete ts v.2 w (at + 1) post (on (v.0 ∷ []) (flat ts v.2 ++ post) a) in
     let e : at + 1 + length (flat ts v.2) ≡ at + suc (length (flat ts v.2)) = omega arith in
-    word_reads (λ x. pick (t x) (fields ts w (at + 1)) (refused FIELD at)) a ∙ (rw v.1 (rest ∙ ap Next e))
+    word_reads (λ x. pick (t x) (fields ts w (at + 1)) (refused FIELD at)) a ∙ (rw v.1 (rest ∙ ap Ok e))
 
-pub fields-sound : (ts : Tests) (w : List ℕ) (at p : ℕ) (rest : List ℕ) → At w at rest → fields ts w at ≡ Next p → Split (Tuple ts) (flat ts) Always rest at p
+pub fields-sound : (ts : Tests) (w : List ℕ) (at p : ℕ) (rest : List ℕ) → At w at rest → fields ts w at ≡ Ok p → Split (Tuple ts) (flat ts) Always rest at p
 unfolding fields
 fields-sound [] w at p rest a e = let q : at ≡ p = cc in record { item = tt; post = rest; valid = tt; opens = refl; ends = omega arith }
 fields-sound (t ∷ ts) w at p rest a e =
@@ -125,8 +125,8 @@ fields-sound (t ∷ ts) w at p rest a e =
     h : Headed rest (λ x. pick (t x) (fields ts w (at + 1)) (refused FIELD at)) p
     h = word_read (λ x. pick (t x) (fields ts w (at + 1)) (refused FIELD at)) a e
 
-    go : (b : Bool) → t h.head ≡ b → pick b (fields ts w (at + 1)) (refused FIELD at) ≡ Next p
-        → (fields ts w (at + 1) ≡ Next p → Split (Tuple ts) (flat ts) Always h.tail (at + 1) p)
+    go : (b : Bool) → t h.head ≡ b → pick b (fields ts w (at + 1)) (refused FIELD at) ≡ Ok p
+        → (fields ts w (at + 1) ≡ Ok p → Split (Tuple ts) (flat ts) Always h.tail (at + 1) p)
         → Split (Tuple (t ∷ ts)) (flat (t ∷ ts)) Always rest at p
     go false u v rec = let z : ◌≡◌ {A = ℕ} 0 1 = cc in absurd (omega arith)
     go true u v rec =
@@ -145,18 +145,18 @@ unfolding both and_then
 paired {A} {B} {r} {s} {f} {g} {G} {U} c d = record { complete = done; sound = λ w at p rest u a e. go w at p rest u a (r w at) refl e }
   where
     done : (x : A × B) (w : List ℕ) (at : ℕ) (post : List ℕ) → G x.0 × U x.1 → At w at ((f x.0 ++ g x.1) ++ post)
-        → and_then (r w at) (s w) ≡ Next (at + length (f x.0 ++ g x.1))
+        → and_then (r w at) (s w) ≡ Ok (at + length (f x.0 ++ g x.1))
     done x w at post v a =
         let b = same a (append_assoc (f x.0) (g x.1) post) in
         let one = c.complete x.0 w at (g x.1 ++ post) v.0 b in
         let two = d.complete x.1 w (at + length (f x.0)) post v.1 (on (f x.0) (g x.1 ++ post) b) in
         let e : at + length (f x.0) + length (g x.1) ≡ at + length (f x.0 ++ g x.1) = omega (arith, length-append (f x.0) (g x.1)) in
-        rw one (two ∙ ap Next e)
+        rw one (two ∙ ap Ok e)
 
-    go : (w : List ℕ) (at p : ℕ) (rest : List ℕ) → Fit w → At w at rest → (o : Place) → r w at ≡ o → and_then o (s w) ≡ Next p
+    go : (w : List ℕ) (at p : ℕ) (rest : List ℕ) → Fit w → At w at rest → (o : Place) → r w at ≡ o → and_then o (s w) ≡ Ok p
         → Split (A × B) (λ x. f x.0 ++ g x.1) (λ x. G x.0 × U x.1) rest at p
-    go w at p rest fit a (Refused o) u v = let z : ◌≡◌ {A = ℕ} 0 1 = cc in absurd (omega arith)
-    go w at p rest fit a (Next q) u v =
+    go w at p rest fit a (Err o) u v = let z : ◌≡◌ {A = ℕ} 0 1 = cc in absurd (omega arith)
+    go w at p rest fit a (Ok q) u v =
         let i = c.sound w at q rest fit a u in
         let j = d.sound w q p i.post fit (past a i) v in
         let e : at + length (f i.item ++ g j.item) ≡ p = omega (arith, length-append (f i.item) (g j.item), i.ends, j.ends) in
@@ -174,12 +174,12 @@ pub mapped : {A B : Type 0} {r : List ℕ → ℕ → Place} {f : A → List ℕ
     → (made : (a : A) → G a → (b : B) × U b × (g b ≡ f a)) → (seen : (b : B) → U b → (a : A) × G a × (f a ≡ g b)) → Codec A r f G → Codec B r g U
 mapped {A} {B} {r} {f} {g} {G} {U} made seen c = record { complete = done; sound = found }
   where
-    done : (x : B) (w : List ℕ) (at : ℕ) (post : List ℕ) → U x → At w at (g x ++ post) → r w at ≡ Next (at + length (g x))
+    done : (x : B) (w : List ℕ) (at : ℕ) (post : List ℕ) → U x → At w at (g x ++ post) → r w at ≡ Ok (at + length (g x))
     done x w at post v a =
         let y = seen x v in
-        c.complete y.0 w at post y.1 (same a (ap (λ l. l ++ post) (sym y.2))) ∙ ap (λ l. Next (at + length l)) y.2
+        c.complete y.0 w at post y.1 (same a (ap (λ l. l ++ post) (sym y.2))) ∙ ap (λ l. Ok (at + length l)) y.2
 
-    found : (w : List ℕ) (at p : ℕ) (rest : List ℕ) → Fit w → At w at rest → r w at ≡ Next p → Split B g U rest at p
+    found : (w : List ℕ) (at p : ℕ) (rest : List ℕ) → Fit w → At w at rest → r w at ≡ Ok p → Split B g U rest at p
     found w at p rest fit a e =
         let s = c.sound w at p rest fit a e in
         let y = made s.item s.valid in
@@ -195,27 +195,27 @@ mapped {A} {B} {r} {f} {g} {G} {U} made seen c = record { complete = done; sound
 
 module _ {A : Type 0} {r : List ℕ → ℕ → Place} {f : A → List ℕ} {G : A → Type 0} (c : Codec A r f G) where
   pub many_complete : (xs : List A) (w : List ℕ) (at : ℕ) (post : List ℕ) → All G xs → At w at (each f xs ++ post)
-      → many (r w) (length xs) at ≡ Next (at + length (each f xs))
+      → many (r w) (length xs) at ≡ Ok (at + length (each f xs))
   unfolding many and_then each All
-  many_complete [] w at post v a = ap Next (omega arith)
+  many_complete [] w at post v a = ap Ok (omega arith)
   many_complete (x ∷ xs) w at post v a =
       let b = same a (append_assoc (f x) (each f xs) post) in
       let one = c.complete x w at (each f xs ++ post) v.0 b in
       let rest = many_complete xs w (at + length (f x)) post v.1 (on (f x) (each f xs ++ post) b) in
       let e : at + length (f x) + length (each f xs) ≡ at + length (f x ++ each f xs) = omega (arith, length-append (f x) (each f xs)) in
-      rw one (rest ∙ ap Next e)
+      rw one (rest ∙ ap Ok e)
 
-  pub many-sound : (n : ℕ) (w : List ℕ) (at p : ℕ) (rest : List ℕ) → Fit w → At w at rest → many (r w) n at ≡ Next p
+  pub many-sound : (n : ℕ) (w : List ℕ) (at p : ℕ) (rest : List ℕ) → Fit w → At w at rest → many (r w) n at ≡ Ok p
       → Split (List A) (each f) (λ xs. (length xs ≡ n) × All G xs) rest at p
   unfolding many and_then each All
   many-sound zero w at p rest fit a e = let q : at ≡ p = cc in record { item = []; post = rest; valid = (refl, tt); opens = refl; ends = omega arith }
   many-sound (suc n) w at p rest fit a e = go (r w at) refl e (λ q z l. many-sound n w q z l fit)
     where
-      go : (o : Place) → r w at ≡ o → and_then o (many (r w) n) ≡ Next p
-          → ((q z : ℕ) (l : List ℕ) → At w q l → many (r w) n q ≡ Next z → Split (List A) (each f) (λ xs. (length xs ≡ n) × All G xs) l q z)
+      go : (o : Place) → r w at ≡ o → and_then o (many (r w) n) ≡ Ok p
+          → ((q z : ℕ) (l : List ℕ) → At w q l → many (r w) n q ≡ Ok z → Split (List A) (each f) (λ xs. (length xs ≡ n) × All G xs) l q z)
           → Split (List A) (each f) (λ xs. (length xs ≡ suc n) × All G xs) rest at p
-      go (Refused o) u v rec = let z : ◌≡◌ {A = ℕ} 0 1 = cc in absurd (omega arith)
-      go (Next q) u v rec =
+      go (Err o) u v rec = let z : ◌≡◌ {A = ℕ} 0 1 = cc in absurd (omega arith)
+      go (Ok q) u v rec =
           let i = c.sound w at q rest fit a u in
           let j = rec q p i.post (past a i) v in
           let e : at + length (f i.item ++ each f j.item) ≡ p = omega (arith, length-append (f i.item) (each f j.item), i.ends, j.ends) in
@@ -233,13 +233,13 @@ module _ {A : Type 0} {r : List ℕ → ℕ → Place} {f : A → List ℕ} {G :
   of_section = record { complete = done; sound = found }
     where
       done : (xs : List A) (w : List ℕ) (at : ℕ) (post : List ℕ) → All G xs → At w at (counted f xs ++ post)
-          → section r w at ≡ Next (at + length (counted f xs))
+          → section r w at ≡ Ok (at + length (counted f xs))
       done xs w at post v a =
           let rest = many_complete xs w (at + 1) post v (on (length xs ∷ []) (each f xs ++ post) a) in
           let e : at + 1 + length (each f xs) ≡ at + suc (length (each f xs)) = omega arith in
-          word_reads (λ n. many (r w) n (at + 1)) a ∙ rest ∙ ap Next e
+          word_reads (λ n. many (r w) n (at + 1)) a ∙ rest ∙ ap Ok e
 
-      found : (w : List ℕ) (at p : ℕ) (rest : List ℕ) → Fit w → At w at rest → section r w at ≡ Next p → Split (List A) (counted f) (All G) rest at p
+      found : (w : List ℕ) (at p : ℕ) (rest : List ℕ) → Fit w → At w at rest → section r w at ≡ Ok p → Split (List A) (counted f) (All G) rest at p
       found w at p rest fit a e =
           let h = word_read (λ n. many (r w) n (at + 1)) a e in
           let s = many-sound h.head w (at + 1) p h.tail fit (on (h.head ∷ []) h.tail (same a h.opens)) h.reads in
@@ -254,21 +254,21 @@ abbrev pub Block : ℕ → (List ℕ → Bool) → List ℕ → Type 0
 Block n good l = (length l ≡ n) × (good l ≡ true)
 
 pub block_complete : (n : ℕ) (good : List ℕ → Bool) (l : List ℕ) (w : List ℕ) (at : ℕ) (post : List ℕ) → Block n good l → At w at (l ++ post)
-    → block n good w at ≡ Next (at + length l)
+    → block n good w at ≡ Ok (at + length l)
 unfolding block
 block_complete n good l w at post v a =
     let h : at + n ≤ length w = omega (arith, v.0, at_length a, length-append l post) in
     let t : take n (drop at w) ≡ l = ap (take n) (at_drop a) ∙ take_at l post n v.0 in
     let g : good (take n (drop at w)) ≡ true = ap good t ∙ v.1 in
-    rw (le-leb (at + n) (length w) h, g) (ap (λ m. Next (at + m)) (sym v.0))
+    rw (le-leb (at + n) (length w) h, g) (ap (λ m. Ok (at + m)) (sym v.0))
 
-pub block-sound : (n : ℕ) (good : List ℕ → Bool) (w : List ℕ) (at p : ℕ) (rest : List ℕ) → At w at rest → block n good w at ≡ Next p
+pub block-sound : (n : ℕ) (good : List ℕ → Bool) (w : List ℕ) (at p : ℕ) (rest : List ℕ) → At w at rest → block n good w at ≡ Ok p
     → Split (List ℕ) (λ l. l) (Block n good) rest at p
 unfolding block
 block-sound n good w at p rest a e = go (leb (at + n) (length w)) refl (good (take n (drop at w))) refl e
   where
     go : (b : Bool) → leb (at + n) (length w) ≡ b → (d : Bool) → good (take n (drop at w)) ≡ d
-        → pick b (pick d (Next (at + n)) (refused FIELD at)) (short w) ≡ Next p
+        → pick b (pick d (Ok (at + n)) (refused FIELD at)) (short w) ≡ Ok p
         → Split (List ℕ) (λ l. l) (Block n good) rest at p
     go false u d g v = let z : ◌≡◌ {A = ℕ} 0 1 = cc in absurd (omega arith)
     go true u false g v = let z : ◌≡◌ {A = ℕ} 0 1 = cc in absurd (omega arith)

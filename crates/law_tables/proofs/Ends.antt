@@ -14,8 +14,8 @@ use borrow.Author.Tests.{le-ltb, lt-leb, leb-true, leb-false}
 use Rattle.refusal.specs.declared.Refusal.{Refusal}
 use Rattle.refusal.specs.Said.{FIELD}
 use Rattle.refusal.specs.Lists.{pick}
-use Rattle.word_reader.specs.declared.Place.{Place}
-use Rattle.word_reader.specs.declared.Place.TheVariants.{Next, Refused}
+use Rattle.word_reader.specs.Parse.{Place}
+use Rattle.std.specs.Prelude.{Ok, Err}
 use Rattle.word_reader.specs.Parse.{refused, short, and_then, word, fields, block, many, section, both}
 use Rattle.law_tables.specs.Whole.{Fit}
 use Rattle.law_tables.proofs.Codec.{At, start, same, on, at_length, word_reads, Tests, block_complete, block-sound}
@@ -36,7 +36,7 @@ zeros n = replicate n 0
 
 -- the words l are read to their end, wherever they stand
 abbrev pub ReadsAt : Reader → List ℕ → Type 0
-ReadsAt read l = (w : List ℕ) (at : ℕ) (post : List ℕ) → At w at (l ++ post) → read w at ≡ Next (at + length l)
+ReadsAt read l = (w : List ℕ) (at : ℕ) (post : List ℕ) → At w at (l ++ post) → read w at ≡ Ok (at + length l)
 
 -- l is refused at its first word, wherever it stands
 abbrev pub Fails : Reader → List ℕ → Type 0
@@ -44,7 +44,7 @@ Fails read l = (w : List ℕ) (at : ℕ) (post : List ℕ) → At w at (l ++ pos
 
 -- behind l, reading goes on with a part: what refuses the part refuses all, and zeros complete what the part reads
 pub record Leads (read : Reader) (l : List ℕ) (part : Reader) : Type 0 where
-  pub refuses : (w : List ℕ) (at : ℕ) (post : List ℕ) (r : Refusal) → At w at (l ++ post) → part w (at + length l) ≡ Refused r → read w at ≡ Refused r
+  pub refuses : (w : List ℕ) (at : ℕ) (post : List ℕ) (r : Refusal) → At w at (l ++ post) → part w (at + length l) ≡ Err r → read w at ≡ Err r
   pub completes : (m : List ℕ) → ReadsAt part m → (n : ℕ) × ReadsAt read (l ++ m ++ zeros n)
 
 -- a part refuses what is left: nothing; one or two words of three; or a word that it forbids, or three
@@ -81,10 +81,10 @@ fit_back l m f i h = subst (λ x. x < 4294967296) (get_or-append-add l m i 0) (f
 
 -- No word
 
-no_words : ReadsAt (λ w at. Next at) []
-no_words w at post a = ap Next (omega arith)
+no_words : ReadsAt (λ w at. Ok at) []
+no_words w at post a = ap Ok (omega arith)
 
-nothing : {M : Marks} → Fronted (λ w at. Next at) M
+nothing : {M : Marks} → Fronted (λ w at. Ok at) M
 nothing = record { least = 0; spare = no_words; ends = λ rest _. taken [] rest refl no_words }
 
 -- A reader that refuses by itself
@@ -107,7 +107,7 @@ module _ (r s : Reader) (l : List ℕ) (goes : (w : List ℕ) (at : ℕ) (post :
   reads_on : (m : List ℕ) → ReadsAt s m → ReadsAt r (l ++ m)
   reads_on m g w at post a =
       let b = same a (append_assoc l m post) in
-      goes w at (m ++ post) b ∙ g w (at + length l) post (on l (m ++ post) b) ∙ ap Next (joined m at)
+      goes w at (m ++ post) b ∙ g w (at + length l) post (on l (m ++ post) b) ∙ ap Ok (joined m at)
 
   pub leads_on : (m : List ℕ) (part : Reader) → Leads s m part → Leads r (l ++ m) part
   leads_on m part g = record {
@@ -234,7 +234,7 @@ row_reads n l e w at post a = block_complete n (λ l. true) l w at post (e, refl
 row-leads : (l : List ℕ) (m : ℕ) → Leads (row (length l + m)) l (row m)
 unfolding block
 row-leads l m = record {
-  refuses = λ w at post r a e. let i : at + (length l + m) ≡ at + length l + m = omega arith in ap (λ k. pick (leb k (length w)) (Next k) (short w)) i ∙ e;
+  refuses = λ w at post r a e. let i : at + (length l + m) ≡ at + length l + m = omega arith in ap (λ k. pick (leb k (length w)) (Ok k) (short w)) i ∙ e;
   completes = λ k f.
       let s = block-sound m (λ l. true) k 0 (0 + length k) k (start k) (f k 0 [] (same (start k) (sym (append-nil k)))) in
       let e : length (l ++ k) ≡ length l + m = omega (arith, length-append l k, s.ends, s.valid.0) in

@@ -17,7 +17,7 @@ use Rattle.run_shape.specs.declared.Run.{Run}
 use Rattle.run_shape.specs.Shape as shape
 use Rattle.run_shape.specs.Shape.{Shape, none, until, held, Got, run, refused}
 use Rattle.run_shape.specs.Words.{is_zero, is_ascii, or_field, short_run, kind_of, bytes_of, ranges_run, read_at, size_of}
-use Rattle.word_reader.specs.declared.Place.TheVariants.{Next}
+use Rattle.std.specs.Prelude.{Ok}
 use Rattle.word_reader.specs.Parse.{short, block, many, section, both}
 use Rattle.word_reader.specs.Records.{any, target, start, after_run, mode_at, state_at, run_at, ascii_at, wide_at, accept_at, escape_at}
 use Rattle.word_reader.specs.Records.{context_at, good_context, triple_at, range_at, config_at, continuation_at}
@@ -75,7 +75,7 @@ long_sorts x y z =
 
 sorted : (x : ℕ) (r : List ℕ) {got : ℕ → Got} → Sorts (length (x ∷ r)) got
     → ((w : List ℕ) (at : ℕ) (post : List ℕ) → At w at (x ∷ (r ++ post)) → read_at w at ≡ got at) → ReadsAt run_at (x ∷ r) ⊎ Fails run_at (x ∷ r)
-sorted x r (good q n g) f = inl (λ w at post a. ap (after_run at) (f w at post a ∙ g at) ∙ ap (λ k. Next (at + k)) n)
+sorted x r (good q n g) f = inl (λ w at post a. ap (after_run at) (f w at post a ∙ g at) ∙ ap (λ k. Ok (at + k)) n)
 sorted x r (bad g) f = inr (λ w at post a. ap (after_run at) (f w at post a ∙ g at))
 
 -- Three words that are judged together: read, or refused at the first; short, where one or two of them stand

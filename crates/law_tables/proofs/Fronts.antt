@@ -14,8 +14,8 @@ use Rattle.refusal.specs.declared.Refusal.{Refusal}
 use Rattle.refusal.specs.Said.{refusal_at, SHORT, TAG, FIELD}
 use Rattle.refusal.specs.Fixed.{tag}
 use Rattle.refusal.specs.Lists.{pick}
-use Rattle.word_reader.specs.declared.Place.{Place}
-use Rattle.word_reader.specs.declared.Place.TheVariants.{Next, Refused}
+use Rattle.word_reader.specs.Parse.{Place}
+use Rattle.std.specs.Prelude.{Ok, Err}
 use Rattle.word_reader.specs.Parse.{refused, short, word}
 use Rattle.word_reader.specs.Records.{run_at, context_at}
 use Rattle.law_tables.specs.Table.{Table, section_words, words_of, Fields}
@@ -46,7 +46,7 @@ behind_tag : (r : List ℕ) → At (tag ∷ r) 1 r
 behind_tag r = on (tag ∷ []) r (start (tag ∷ r))
 
 -- reading goes on, or is refused
-pub one_way : {x : Place} {r : Refusal} {q : ℕ} → x ≡ Refused r → x ≡ Next q → ⊥
+pub one_way : {x : Place} {r : Refusal} {q : ℕ} → x ≡ Err r → x ≡ Ok q → ⊥
 one_way e f = let z : ◌≡◌ {A = ℕ} 0 1 = cc in omega arith
 
 -- and refused in one way
@@ -57,10 +57,10 @@ one_refusal {n = n} {p} {m} {q} e f =
 
 -- Tables: their words are read to the end, whatever is behind them, and open no other's
 
-table_read : (t : Table) (more : List ℕ) → Fields t → whole_at (words_of t ++ more) ≡ Next (length (words_of t))
+table_read : (t : Table) (more : List ℕ) → Fields t → whole_at (words_of t ++ more) ≡ Ok (length (words_of t))
 table_read t more h =
     let e : 1 + length (section_words t) ≡ suc (length (section_words t)) = omega arith in
-    whole-tag (section_words t ++ more) ∙ sections.complete t (words_of t ++ more) 1 more h (behind_tag (section_words t ++ more)) ∙ ap Next e
+    whole-tag (section_words t ++ more) ∙ sections.complete t (words_of t ++ more) 1 more h (behind_tag (section_words t ++ more)) ∙ ap Ok e
 
 only_whole : (t u : Table) (more : List ℕ) → Fields t → Fields u → words_of t ++ more ≡ words_of u → length more ≡ 0
 only_whole t u more h k e =
@@ -85,7 +85,7 @@ completed l n f r =
     let v = l ++ zeros n in
     let a = same (behind_tag v) (sym (append-nil v)) in
     let e : 1 + length v ≡ suc (length v) = omega arith in
-    let t = accepted_words (tag ∷ v) (fit_zeros (tag ∷ l) n f) (whole-tag v ∙ r (tag ∷ v) 1 [] a ∙ ap Next e) in
+    let t = accepted_words (tag ∷ v) (fit_zeros (tag ∷ l) n f) (whole-tag v ∙ r (tag ∷ v) 1 [] a ∙ ap Ok e) in
     (t.0, zeros n, t.1, t.2)
 
 begins_front : (u v : List ℕ) → Begins (u ++ v) → Begins u
@@ -121,18 +121,18 @@ stands u post = record { pre = u; whole = refl; here = refl }
 
 -- behind u, reading goes on with a part: what refuses the part refuses the whole, and with what it reads behind it u still begins a table
 record Due (part : Reader) (u : List ℕ) : Type 0 where
-  refused : (post : List ℕ) (r : Refusal) → part (u ++ post) (length u) ≡ Refused r → whole_at (u ++ post) ≡ Refused r
+  refused : (post : List ℕ) (r : Refusal) → part (u ++ post) (length u) ≡ Err r → whole_at (u ++ post) ≡ Err r
   allowed : (m : List ℕ) → Fit (u ++ m) → ReadsAt part m → Begins (u ++ m)
 
 due : (l : List ℕ) (part : Reader) → Leads sections_at l part → Due part (tag ∷ l)
 due l part g = record { refused = turned; allowed = λ m f r. let h = g.completes m r in completed (l ++ m) h.0 f h.1 }
   where
-    turned : (post : List ℕ) (r : Refusal) → part (tag ∷ (l ++ post)) (suc (length l)) ≡ Refused r → whole_at (tag ∷ (l ++ post)) ≡ Refused r
+    turned : (post : List ℕ) (r : Refusal) → part (tag ∷ (l ++ post)) (suc (length l)) ≡ Err r → whole_at (tag ∷ (l ++ post)) ≡ Err r
     turned post r e =
         let i : 1 + length l ≡ suc (length l) = omega arith in
         whole-tag (l ++ post) ∙ g.refuses (tag ∷ (l ++ post)) 1 post r (behind_tag (l ++ post)) (ap (part (tag ∷ (l ++ post))) i ∙ e)
 
-due_here : (part : Reader) (w : List ℕ) (p : ℕ) {r : Refusal} → p ≤ length w → Due part (take p w) → part w p ≡ Refused r → whole_at w ≡ Refused r
+due_here : (part : Reader) (w : List ℕ) (p : ℕ) {r : Refusal} → p ≤ length w → Due part (take p w) → part w p ≡ Err r → whole_at w ≡ Err r
 due_here part w p {r} h d e =
     let o = take-append-drop p w in
     ap whole_at (sym o) ∙ d.refused (drop p w) r (ap (λ k. part k (length (take p w))) o ∙ ap (part w) (length-take-le p w h) ∙ e)
@@ -206,8 +206,8 @@ pub data Reason (w : List ℕ) (r : Refusal) : Type 0 where
   forbids : r ≡ refusal_at FIELD r.place → Forbids w r.place → Reason w r
 
 abbrev pub Judged : List ℕ → Place → Type 0
-Judged w (Next p) = Opens w p
-Judged w (Refused r) = Reason w r
+Judged w (Ok p) = Opens w p
+Judged w (Err r) = Reason w r
 
 module _ (u post : List ℕ) (fit : Fit (u ++ post)) (some : 1 ≤ length u) (b : Begins u) (part : Reader) (d : Due part u) where
   front : take (length u) (u ++ post) ≡ u
@@ -277,8 +277,8 @@ judged (x ∷ r) f = tagged (eqb x tag) refl
 
 -- The other way
 
-pub opens_read : (w : List ℕ) (p : ℕ) → Opens w p → whole_at w ≡ Next p
-opens_read w p (t, more, h, o, e) = ap whole_at o ∙ table_read t more h ∙ ap Next e
+pub opens_read : (w : List ℕ) (p : ℕ) → Opens w p → whole_at w ≡ Ok p
+opens_read w p (t, more, h, o, e) = ap whole_at o ∙ table_read t more h ∙ ap Ok e
 
 pub differs-tag : (w : List ℕ) → Differs w → whole_at w ≡ refused TAG 0
 differs-tag w (x, more, o, n) = ap whole_at o ∙ whole-differs x more n
@@ -288,13 +288,13 @@ pub front-short : (w : List ℕ) → Fit w → Unfinished w → whole_at w ≡ s
 front-short w f (t, more, h, e, n) = go (whole_at w) (judged w f)
   where
     go : (x : Place) → Judged w x → x ≡ short w
-    go (Next p) (u, post, k, o, l) =
+    go (Ok p) (u, post, k, o, l) =
         let i = sym (append_assoc (words_of u) post more) ∙ ap (λ k. k ++ more) (sym o) ∙ e in
         absurd (omega (arith, only_whole u t (post ++ more) k h i, length-append post more))
-    go (Refused r) (ends i _) = ap Refused i
-    go (Refused r) (differs _ (x, post, o, k)) = let i : (x ∷ post) ++ more ≡ words_of t = ap (λ k. k ++ more) (sym o) ∙ e in absurd (k (cc))
-    go (Refused r) (forbids _ (_, _, inl k)) = absurd (k.1 (begins_take (r.place + 1) w (t, more, h, e)))
-    go (Refused r) (forbids _ (_, _, inr k)) = absurd (k.1 (begins_take (r.place + 3) w (t, more, h, e)))
+    go (Err r) (ends i _) = ap Err i
+    go (Err r) (differs _ (x, post, o, k)) = let i : (x ∷ post) ++ more ≡ words_of t = ap (λ k. k ++ more) (sym o) ∙ e in absurd (k (cc))
+    go (Err r) (forbids _ (_, _, inl k)) = absurd (k.1 (begins_take (r.place + 1) w (t, more, h, e)))
+    go (Err r) (forbids _ (_, _, inr k)) = absurd (k.1 (begins_take (r.place + 3) w (t, more, h, e)))
 
 -- what begins no table any more is FIELD
 pub forbids_field : (w : List ℕ) (p : ℕ) → Fit w → Forbids w p → whole_at w ≡ refused FIELD p
@@ -312,20 +312,20 @@ forbids_field w p f (some, (t, more, k, e, m), inl (h, n, single)) = go (whole_a
     here_too q g = begins_upto w q p g (t, more, k, e)
 
     go : (x : Place) → Judged w x → x ≡ refused FIELD p
-    go (Next q) (v, post, i, o, l) =
+    go (Ok q) (v, post, i, o, l) =
         let g = before q (v, [], i, append-nil (take q w) ∙ ap (take q) o ∙ take_at (words_of v) post q l) in
         let j : length (words_of v) + (p - q) ≡ p = omega arith in
         let s = ap (λ n. take n w) (sym j) ∙ ap (take (length (words_of v) + (p - q))) o ∙ take-append-add (words_of v) post (p - q) in
         let c = sym (append_assoc (words_of v) (take (p - q) post) more) ∙ ap (λ l. l ++ more) (sym s) ∙ e in
         absurd (omega (arith, only_whole v t (take (p - q) post ++ more) i k c, length-append (take (p - q) post) more))
-    go (Refused r) (ends _ (inl b)) = absurd (n (begins_take (p + 1) w (b.0, b.1, b.2, b.3)))
-    go (Refused r) (ends _ (inr (q, i, j, b, x))) = absurd (single q (before q b) (omega arith) x)
-    go (Refused r) (differs _ (x, post, o, i)) = absurd (i (first p some (subst (λ l. take p l ++ more ≡ words_of t) o e)))
+    go (Err r) (ends _ (inl b)) = absurd (n (begins_take (p + 1) w (b.0, b.1, b.2, b.3)))
+    go (Err r) (ends _ (inr (q, i, j, b, x))) = absurd (single q (before q b) (omega arith) x)
+    go (Err r) (differs _ (x, post, o, i)) = absurd (i (first p some (subst (λ l. take p l ++ more ≡ words_of t) o e)))
       where
         first : (p : ℕ) → 1 ≤ p → take p (x ∷ post) ++ more ≡ words_of t → x ≡ tag
         first zero h c = absurd (omega arith)
         first (suc p) h c = cc
-    go (Refused r) (forbids i (_, (t, more, k, e, _), why)) = ap Refused i ∙ ap (refused FIELD) (exact why)
+    go (Err r) (forbids i (_, (t, more, k, e, _), why)) = ap Err i ∙ ap (refused FIELD) (exact why)
       where
         exact : WordForbidden w r.place ⊎ ThreeForbidden w r.place → r.place ≡ p
         exact (inl g) = omega (arith, before r.place (t, more, k, e), here_too (r.place + 1) g.1)

@@ -12,8 +12,8 @@ use lib.Dec.{ltb, leb, eqb}
 use lib.ListN.{length, get_or}
 use borrow.Author.Tests.{lt-ltb, le-leb, ltb-true, leb-true, eqb-true, eq-eqb}
 use Rattle.refusal.specs.Fixed.{NONE, ESCAPE-STATE, DEAD-STATE}
-use Rattle.word_reader.specs.declared.Place.{Place}
-use Rattle.word_reader.specs.declared.Place.TheVariants.{Next}
+use Rattle.word_reader.specs.Parse.{Place}
+use Rattle.std.specs.Prelude.{Ok}
 use Rattle.word_reader.specs.Records.{state_at}
 use Rattle.rule_words.specs.Rules as words
 use Rattle.rule_words.specs.Rules.{every_from, walk, every, every_in, read_or, passing, passing_in, sized, good, none_or, present, follows, next_from}
@@ -123,7 +123,7 @@ pub record Step {A : Type 0} (f : A → List ℕ) (P : ℕ → A → Type 0) (ne
     (n : ℕ) (x : A) (at : ℕ) : Type 0 where
   pub judges : Judges (test n at) (P n x)
   pub hands : hand n at ≡ next n x
-  pub reads : read at ≡ Next (at + length (f x))
+  pub reads : read at ≡ Ok (at + length (f x))
 
 module _ {A : Type 0} (f : A → List ℕ) (G P : ℕ → A → Type 0) (next : ℕ → A → ℕ) (w : List ℕ) (test : ℕ → ℕ → Bool) (hand : ℕ → ℕ → ℕ) (read : ℕ → Place)
     (step : (n : ℕ) (x : A) (at : ℕ) (post : List ℕ) → G n x → At w at (f x ++ post) → Step f P next test hand read n x at) where
@@ -142,7 +142,7 @@ module _ {A : Type 0} (f : A → List ℕ) (G P : ℕ → A → Type 0) (next : 
 -- how many records pass before the first that does not is the number of the first that does not fit
 module _ {A : Type 0} (f : A → List ℕ) (G P : ℕ → A → Type 0) (w : List ℕ) (test : ℕ → ℕ → Bool) (read : ℕ → Place)
     (judges : (n : ℕ) (x : A) (at : ℕ) (post : List ℕ) → G n x → At w at (f x ++ post) → Judges (test n at) (P n x))
-    (reads : (n : ℕ) (x : A) (at : ℕ) (post : List ℕ) → G n x → At w at (f x ++ post) → read at ≡ Next (at + length (f x))) where
+    (reads : (n : ℕ) (x : A) (at : ℕ) (post : List ℕ) → G n x → At w at (f x ++ post) → read at ≡ Ok (at + length (f x))) where
   pub first_found : (xs : List A) (n at : ℕ) (post : List ℕ) → Numbered G n xs → At w at (each f xs ++ post) → (Numbered P n xs → ⊥)
       → FirstNot P n xs (passing test read n (length xs) at)
   unfolding passing read_or each Numbered FirstNot
@@ -197,7 +197,7 @@ numbered_all P n (x ∷ xs) v = (v.0, numbered_all P (n + 1) xs v.1)
 -- a walk that hands nothing on, over records that `read` reads
 module _ {A : Type 0} (f : A → List ℕ) (G P : A → Type 0) (w : List ℕ) (test : ℕ → Bool) (read : ℕ → Place)
     (judges : (x : A) (at : ℕ) (post : List ℕ) → G x → At w at (f x ++ post) → Judges (test at) (P x))
-    (reads : (x : A) (at : ℕ) (post : List ℕ) → G x → At w at (f x ++ post) → read at ≡ Next (at + length (f x))) where
+    (reads : (x : A) (at : ℕ) (post : List ℕ) → G x → At w at (f x ++ post) → read at ≡ Ok (at + length (f x))) where
   pub each_judges : (xs : List A) (at : ℕ) (post : List ℕ) → All G xs → At w at (each f xs ++ post)
       → Judges (walk (λ n p. test p) (λ n p. n) read 0 (length xs) at) (All P xs)
   each_judges xs at post v a =

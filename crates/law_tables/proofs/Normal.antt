@@ -10,9 +10,9 @@ use lib.Seq.{take_at}
 use Rattle.refusal.specs.Fixed.{tag}
 use Rattle.refusal.specs.Lists.{pick, each}
 use Rattle.refusal.specs.Header.{HEADER-NUMBERS}
-use Rattle.word_reader.specs.declared.Place.{Place}
+use Rattle.word_reader.specs.Parse.{Place}
 use Rattle.room_fill.specs.Room.{starts_from, starts, copied, flag, renewed, accept_made, config_made}
-use Rattle.room_fill.specs.Room.{continuation_made, made, shifted, placed, four, header, numbers}
+use Rattle.room_fill.specs.Room.{continuation_made, made, in_room, shifted, placed, header, numbers}
 use Rattle.law_tables.specs.Table.{Table, Accept, Config, Continuation, Fields, ContinuationFields, All, counted, section_words, words_of, mode_words}
 use Rattle.law_tables.specs.Table.{state_words, run_words, ascii_words, wide_words, action_words, accept_words, escape_words, context_words, config_words}
 use Rattle.law_tables.specs.Table.{continuation_words}
@@ -243,7 +243,7 @@ offsets_same f g k (x ∷ xs) at = rw (k x) (ap (λ l. (at + HEADER-NUMBERS) ∷
 -- the numbers that a table fills a room with
 unfoldable pub numbers_of : Table → List ℕ
 numbers_of t =
-    (length (words_of t) ∷ (four 1 (states_place t) (runs_place t) (ascii_place t) ++ four (wide_place t) (accepts_place t) (escapes_place t) (continuations_place t)))
+    (length (words_of t) ∷ map in_room (1 ∷ states_place t ∷ runs_place t ∷ ascii_place t ∷ wide_place t ∷ accepts_place t ∷ escapes_place t ∷ continuations_place t ∷ []))
     ++ (words_of (normal t)
     ++ (offsets run_words t.runs (runs_place t + 1) ++ (offsets wide_words t.wide (wide_place t + 1) ++ (offsets accept_words t.accepts (accepts_place t + 1)
     ++ (offsets escape_words t.escapes (escapes_place t + 1) ++ offsets continuation_words t.continuations (continuations_place t + 1))))))

@@ -10,8 +10,8 @@ use native.Mathlib.Omega.{arith}
 use lib.ListN.{length, length-append}
 use Rattle.refusal.specs.Lists.{each}
 use Rattle.word_reader.specs.declared.Sections.{Sections}
-use Rattle.word_layout.specs.declared.Layout.{Layout}
-use Rattle.word_layout.specs.declared.Layout.TheVariants.{Found, Unfound}
+use Rattle.word_layout.specs.Layout.{Layout}
+use Rattle.std.specs.Prelude.{Ok, Err}
 use Rattle.word_layout.specs.Layout.{layout_of}
 use Rattle.rule_words.specs.Rules.{first_broken, first_item, rules, items, broken, broken_item}
 use Rattle.law_tables.specs.Table.{Table, State, Fields, state_words, words_of}
@@ -141,25 +141,25 @@ module _ (t : Table) (h : Fields t) (l : length (words_of t) ≤ 8192) where
   first_broken_lem k i = first_failed 1 k i (tests_of t) (items_of t) (in_order t) tests_judge
 
   -- a table that obeys the rules is accepted, with its sections where they stand
-  pub obeys_accepted : Rules t → (layout_of (words_of t) ≡ Found (sections_of t)) × (broken_of t ≡ 0)
+  pub obeys_accepted : Rules t → (layout_of (words_of t) ≡ Ok (sections_of t)) × (broken_of t ≡ 0)
   obeys_accepted r = (layout_is t h, unbroken_is.1 r)
 
 -- Words in which a layout is found
 
 -- the number of the first broken rule, by the places that were found
 abbrev broken_in : List ℕ → Layout → ℕ
-broken_in w (Found s) = broken w s
-broken_in w (Unfound r) = 0
+broken_in w (Ok s) = broken w s
+broken_in w (Err r) = 0
 
 within : (w : List ℕ) (t : Table) → length w ≤ 8192 → w ≡ words_of t → length (words_of t) ≤ 8192
 within w t n e = subst (λ y. length y ≤ 8192) e n
 
-module _ (w : List ℕ) (s : Sections) (f : Fit w) (n : length w ≤ 8192) (l : layout_of w ≡ Found s) where
+module _ (w : List ℕ) (s : Sections) (f : Fit w) (n : length w ≤ 8192) (l : layout_of w ≡ Ok s) where
   -- they are those of a table, whose rules are judged
   found-judged : (t : Table) × Fields t × (w ≡ words_of t) × (broken_of t ≡ broken w s)
   found-judged =
       let t = found_table w f l in
-      (t.0, t.1, t.2, ap (λ y. broken_in y (Found (sections_of t.0))) (sym t.2) ∙ ap (broken_in w) (sym t.3 ∙ l))
+      (t.0, t.1, t.2, ap (λ y. broken_in y (Ok (sections_of t.0))) (sym t.2) ∙ ap (broken_in w) (sym t.3 ∙ l))
 
   -- what is accepted is the words of a table that obeys the rules
   pub accepted_obeys : broken w s ≡ 0 → (t : Table) × Fields t × Rules t × (w ≡ words_of t)

@@ -7,11 +7,10 @@ use native.Mathlib.Omega.{arith}
 use lib.ListN.{length}
 use borrow.Author.Tests.{le-ltb, ne_eqb}
 use Rattle.refusal.specs.Fixed.{tag}
-use Rattle.word_reader.specs.declared.Place.{Place}
-use Rattle.word_reader.specs.declared.Place.TheVariants.{Next}
+use Rattle.word_reader.specs.Parse.{Place}
+use Rattle.std.specs.Prelude.{Ok}
 use Rattle.word_reader.specs.declared.Sections.{Sections}
 use Rattle.word_reader.specs.Parse.{and_then}
-use Rattle.word_layout.specs.declared.Layout.TheVariants.{Found}
 use Rattle.word_layout.specs.Layout.{place_of, after_modes, after_states, after_runs, after_ascii, after_wide, after_accepts, after_escapes, closed, layout_of}
 use Rattle.law_tables.specs.Table.{Table, Fields, counted, section_words, words_of}
 use Rattle.law_tables.specs.Table.{mode_words, state_words, run_words, ascii_words, wide_words, accept_words, escape_words, continuation_words}
@@ -83,22 +82,22 @@ module _ (t : Table) where
 -- a section is read to its end
 reads : {A : Type 0} {r : List ℕ → ℕ → Place} {f : A → List ℕ} {G : A → Type 0} (c : Codec A r f G) (x : A) {w : List ℕ} (post : List ℕ)
     {at : ℕ} {before : Place}
-    → before ≡ Next at → G x → At w at (f x ++ post) → and_then before (r w) ≡ Next (at + length (f x))
+    → before ≡ Ok at → G x → At w at (f x ++ post) → and_then before (r w) ≡ Ok (at + length (f x))
 unfolding and_then
 reads c x {w} post {at} e v a = rw e (c.complete x w at post v a)
 
 -- the layout of a table's words is the table's places
-pub layout_is : (t : Table) → Fields t → layout_of (words_of t) ≡ Found (sections_of t)
+pub layout_is : (t : Table) → Fields t → layout_of (words_of t) ≡ Ok (sections_of t)
 unfolding layout_of closed place_of
 layout_is t h =
     let w = words_of t in
-    let s : after_modes w ≡ Next (states_place t) = reads (of_section mode) t.modes (from_states t) refl h.modes (modes_stand t) in
-    let r : after_states w ≡ Next (runs_place t) = reads (of_section state) t.states (from_runs t) s h.states (states_stand t) in
-    let a : after_runs w ≡ Next (ascii_place t) = reads (of_section run_codec) t.runs (from_ascii t) r h.runs (runs_stand t) in
-    let v : after_ascii w ≡ Next (wide_place t) = reads (of_section ascii) t.ascii (from_wide t) a h.ascii (ascii_stand t) in
-    let x : after_wide w ≡ Next (accepts_place t) = reads (of_section wide_row_lem) t.wide (from_accepts t) v h.wide (wide_stand t) in
-    let e : after_accepts w ≡ Next (escapes_place t) = reads (of_section accept) t.accepts (from_escapes t) x (all_always t.accepts) (accepts_stand t) in
-    let c : after_escapes w ≡ Next (continuations_place t) =
+    let s : after_modes w ≡ Ok (states_place t) = reads (of_section mode) t.modes (from_states t) refl h.modes (modes_stand t) in
+    let r : after_states w ≡ Ok (runs_place t) = reads (of_section state) t.states (from_runs t) s h.states (states_stand t) in
+    let a : after_runs w ≡ Ok (ascii_place t) = reads (of_section run_codec) t.runs (from_ascii t) r h.runs (runs_stand t) in
+    let v : after_ascii w ≡ Ok (wide_place t) = reads (of_section ascii) t.ascii (from_wide t) a h.ascii (ascii_stand t) in
+    let x : after_wide w ≡ Ok (accepts_place t) = reads (of_section wide_row_lem) t.wide (from_accepts t) v h.wide (wide_stand t) in
+    let e : after_accepts w ≡ Ok (escapes_place t) = reads (of_section accept) t.accepts (from_escapes t) x (all_always t.accepts) (accepts_stand t) in
+    let c : after_escapes w ≡ Ok (continuations_place t) =
     reads (of_section escape) t.escapes (from_continuations t) e (all_always t.escapes) (escapes_stand t) in
     let end = reads (of_section continuation) t.continuations [] c h.continuations (continuations_stand t) in
     let all = at_length (on (counted continuation_words t.continuations) [] (continuations_stand t)) in
@@ -107,9 +106,9 @@ layout_is t h =
     rw (ne_eqb (suc (length (section_words t))) 0 n, end, left, c, e, x, v, a, r, s)
 
 -- where a whole table is read, to the last word, its layout is found
-pub whole-found : (w : List ℕ) → Fit w → whole_at w ≡ Next (length w) → (t : Table) × Fields t × (w ≡ words_of t) × (layout_of w ≡ Found (sections_of t))
+pub whole-found : (w : List ℕ) → Fit w → whole_at w ≡ Ok (length w) → (t : Table) × Fields t × (w ≡ words_of t) × (layout_of w ≡ Ok (sections_of t))
 whole-found w f e = let t = accepted_words w f e in (t.0, t.1, t.2, ap layout_of t.2 ∙ layout_is t.0 t.1)
 
 -- the table in whose words a layout is found
-pub found_table : (w : List ℕ) {s : Sections} → Fit w → layout_of w ≡ Found s → (t : Table) × Fields t × (w ≡ words_of t) × (layout_of w ≡ Found (sections_of t))
+pub found_table : (w : List ℕ) {s : Sections} → Fit w → layout_of w ≡ Ok s → (t : Table) × Fields t × (w ≡ words_of t) × (layout_of w ≡ Ok (sections_of t))
 found_table w f l = whole-found w f (found-whole w l)

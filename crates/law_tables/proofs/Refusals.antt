@@ -12,11 +12,10 @@ use borrow.Author.Tests.{ltb-true, ltb-false, lt-ltb, le-ltb}
 use Rattle.refusal.specs.declared.Refusal.{Refusal}
 use Rattle.refusal.specs.Said.{ok, refusal_at, SHORT, TAG, FIELD, LEFT}
 use Rattle.refusal.specs.Lists.{pick}
-use Rattle.word_reader.specs.declared.Place.{Place}
-use Rattle.word_reader.specs.declared.Place.TheVariants.{Next, Refused}
+use Rattle.word_reader.specs.Parse.{Place}
+use Rattle.std.specs.Prelude.{Ok, Err}
 use Rattle.word_reader.specs.Parse.{refused}
-use Rattle.word_layout.specs.declared.Layout.{Layout}
-use Rattle.word_layout.specs.declared.Layout.TheVariants.{Found, Unfound}
+use Rattle.word_layout.specs.Layout.{Layout}
 use Rattle.word_layout.specs.Layout.{said, unfound, layout_of}
 use Rattle.law_tables.specs.Table.{words_of}
 use Rattle.law_tables.specs.Whole.{Fit}
@@ -37,16 +36,16 @@ module _ (w : List ℕ) (f : Fit w) where
   Why r = Reason w r ⊎ ((r ≡ refusal_at LEFT r.place) × (r.place < length w) × Opens w r.place)
 
   abbrev Closed : Place → Type 0
-  Closed (Next p) = IsTable w
-  Closed (Refused r) = Why r
+  Closed (Ok p) = IsTable w
+  Closed (Err r) = Why r
 
   closes : (x : Place) → Judged w x → Closed (to_last w x)
-  closes (Refused r) j = inl j
-  closes (Next p) o = go (ltb p (length w)) refl
+  closes (Err r) j = inl j
+  closes (Ok p) o = go (ltb p (length w)) refl
     where
-      go : (b : Bool) → ltb p (length w) ≡ b → Closed (pick b (refused LEFT p) (Next (length w)))
+      go : (b : Bool) → ltb p (length w) ≡ b → Closed (pick b (refused LEFT p) (Ok (length w)))
       go true u = inr (refl, ltb-true p (length w) u, o)
-      go false u = let i : p ≡ length w = omega (arith, ltb-false p (length w) u, opens_inside w p o) in accepted_words w f (opens_read w p o ∙ ap Next i)
+      go false u = let i : p ≡ length w = omega (arith, ltb-false p (length w) u, opens_inside w p o) in accepted_words w f (opens_read w p o ∙ ap Ok i)
 
   says : (s : Layout) → layout_of w ≡ s → Closed (as_place w s)
   says s e = subst Closed (sym (agree w) ∙ ap (as_place w) e) (closes (whole_at w) (judged w f))
@@ -78,8 +77,8 @@ module _ (w : List ℕ) (f : Fit w) where
   numbered (inr (i, _, _)) = (inr (inr (inr (ap (λ r. r.number) i))), ap (λ r. r.item) i)
 
   found_table : (s : Layout) (l : List ℕ) → layout_of w ≡ s → said s ≡ ok l → IsTable w
-  found_table (Found q) l e h = says _ e
-  found_table (Unfound r) l e h = let z : ◌≡◌ {A = ℕ} 0 1 = cc in absurd (omega arith)
+  found_table (Ok q) l e h = says _ e
+  found_table (Err r) l e h = let z : ◌≡◌ {A = ℕ} 0 1 = cc in absurd (omega arith)
 
   -- The other way: the whole's reading gives the layout's answer
 
@@ -87,8 +86,8 @@ module _ (w : List ℕ) (f : Fit w) where
   unfound_as {n} {p} e = go (layout_of w) (agree w ∙ e)
     where
       go : (s : Layout) → as_place w s ≡ refused n p → s ≡ unfound n p
-      go (Found q) h = absurd (one_way h refl)
-      go (Unfound q) h = cc
+      go (Ok q) h = absurd (one_way h refl)
+      go (Err q) h = cc
 
   ends-short : EndsInside w → layout_of w ≡ unfound SHORT (length w)
   ends-short (inl h) = unfound_as (ap (to_last w) (front-short w f h))
@@ -96,12 +95,12 @@ module _ (w : List ℕ) (f : Fit w) where
 
   table_found : IsTable w → (l : List ℕ) × (said (layout_of w) ≡ ok l)
   table_found (t, h, e) =
-      let i = ap whole_at e ∙ words_accepted t h ∙ ap (λ l. Next (length l)) (sym e) in
+      let i = ap whole_at e ∙ words_accepted t h ∙ ap (λ l. Ok (length l)) (sym e) in
       go (layout_of w) (agree w ∙ ap (to_last w) i ∙ (rw (le-ltb (length w) (length w) (omega arith))))
     where
-      go : (s : Layout) → as_place w s ≡ Next (length w) → (l : List ℕ) × (said s ≡ ok l)
-      go (Found q) e = (_, refl)
-      go (Unfound q) e = absurd (one_way refl e)
+      go : (s : Layout) → as_place w s ≡ Ok (length w) → (l : List ℕ) × (said s ≡ ok l)
+      go (Ok q) e = (_, refl)
+      go (Err q) e = absurd (one_way refl e)
 
   pub refusals : Refusals w
   refusals = record {

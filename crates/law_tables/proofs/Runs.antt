@@ -20,7 +20,7 @@ use Rattle.run_shape.specs.declared.RunWords.{RunWords}
 use Rattle.run_shape.specs.Shape.{Shape, none, any, until, ranges, shape_of, shape, plain, held, Got, run, refused}
 use Rattle.run_shape.specs.Words.{or_field, short_run, kind_of, bytes_of, ranges_run, read_at, size_of, words_of_run}
 use Rattle.refusal.proofs.Lists.{and_split}
-use Rattle.word_reader.specs.declared.Place.TheVariants.{Next}
+use Rattle.std.specs.Prelude.{Ok}
 use Rattle.word_reader.specs.Records.{after_run, run_at}
 use Rattle.law_tables.specs.Table.{packed, bytes, run_words, All, InOrder, RunFields}
 use Rattle.law_tables.specs.Whole.{Fit}
@@ -418,11 +418,11 @@ size_words q = go q.kind
 pub run_codec : Codec Shape run_at run_words RunFields
 run_codec = record { complete = done; sound = λ w at p rest f a e. found w at p rest f a (read_at w at) refl e }
   where
-    done : (s : Shape) (w : List ℕ) (at : ℕ) (post : List ℕ) → RunFields s → At w at (run_words s ++ post) → run_at w at ≡ Next (at + length (run_words s))
+    done : (s : Shape) (w : List ℕ) (at : ℕ) (post : List ℕ) → RunFields s → At w at (run_words s ++ post) → run_at w at ≡ Ok (at + length (run_words s))
     done s w at post v a =
-        ap (after_run at) (shape_reads s post v a) ∙ ap (λ n. Next (at + n)) (size_words (held s) ∙ ap (λ x. length (run_words x)) (held-shape s v))
+        ap (after_run at) (shape_reads s post v a) ∙ ap (λ n. Ok (at + n)) (size_words (held s) ∙ ap (λ x. length (run_words x)) (held-shape s v))
 
-    found : (w : List ℕ) (at p : ℕ) (rest : List ℕ) → Fit w → At w at rest → (g : Got) → read_at w at ≡ g → after_run at g ≡ Next p
+    found : (w : List ℕ) (at p : ℕ) (rest : List ℕ) → Fit w → At w at rest → (g : Got) → read_at w at ≡ g → after_run at g ≡ Ok p
         → Split Shape run_words RunFields rest at p
     found w at p rest f a (refused n x) u e = let z : ◌≡◌ {A = ℕ} 0 1 = cc in absurd (omega arith)
     found w at p rest f a (run q) u e =

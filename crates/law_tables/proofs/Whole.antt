@@ -5,7 +5,7 @@ use lib.Dec.{eqb}
 use Rattle.refusal.specs.Said.{TAG}
 use Rattle.refusal.specs.Fixed.{tag}
 use Rattle.refusal.specs.Lists.{pick}
-use Rattle.word_reader.specs.declared.Place.{Place}
+use Rattle.word_reader.specs.Parse.{Place}
 use Rattle.word_reader.specs.Parse.{refused, word, section, both}
 use Rattle.word_reader.specs.Records.{mode_at, state_at, run_at, ascii_at, wide_at, accept_at, escape_at, continuation_at}
 

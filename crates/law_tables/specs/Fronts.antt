@@ -1,10 +1,9 @@
 -- When the layout refuses words (document 01, "Refusals by number"), in terms of tables: words begin a table, or they do not.
-use Rattle.std.specs.Prelude.{ℕ, ◌+◌, ◌≤◌, ◌<◌, ◌%◌, ◌≡◌, List, ◌∷◌, ◌++◌, ◌⊎◌, length, get_or, take}
+use Rattle.std.specs.Prelude.{ℕ, ◌+◌, ◌≤◌, ◌<◌, ◌%◌, ◌≡◌, List, ◌∷◌, ◌++◌, ◌⊎◌, length, get_or, take, Err}
 use Rattle.refusal.specs.declared.Refusal.{Refusal}
 use Rattle.refusal.specs.Said.{SHORT, TAG, FIELD, LEFT, ok}
 use Rattle.refusal.specs.Fixed.{tag}
 use Rattle.refusal.specs.Lists.{each}
-use Rattle.word_layout.specs.declared.Layout.TheVariants.{Unfound}
 use Rattle.word_layout.specs.Layout.{said, unfound, layout_of}
 use Rattle.law_tables.specs.Table.{Table, counted, mode_words, state_words, run_words, context_words, config_words, continuation_words, words_of, Fields}
 
@@ -78,5 +77,5 @@ pub record Refusals (w : List ℕ) : Type 0 where
   -- "5 LEFT | words remain"
   pub left : (p : ℕ) → Exactly (layout_of w ≡ unfound LEFT p) ((p < length w) × Opens w p)
   -- no other number, and no item
-  pub no_other : (r : Refusal) → layout_of w ≡ Unfound r
+  pub no_other : (r : Refusal) → layout_of w ≡ Err r
       → ((r.number ≡ SHORT) ⊎ (r.number ≡ TAG) ⊎ (r.number ≡ FIELD) ⊎ (r.number ≡ LEFT)) × (r.item ≡ 0)

@@ -2,68 +2,73 @@
 use Prim.Native.Nat.{ℕ}
 use mathlib.Core.Path.{◌≡◌, refl, sym, ap, ◌∙◌}
 use mathlib.Core.List.{List}
-use mathlib.Core.Bool.{false}
 use lib.ListN.{length, get_or}
 use borrow.Author.Rules.{rules}
-use lib.Dec.{eqb}
-use borrow.Author.Tests.{ne_eqb}
+use Rattle.std.specs.Prelude.{Option, Some, None, Ok, Err}
 use Rattle.refusal.specs.declared.Refusal.{Refusal}
 use Rattle.refusal.specs.Said.{Said, ok, broken_by, no_by}
 use Rattle.word_reader.specs.declared.Sections.{Sections}
-use Rattle.word_layout.specs.declared.Layout.{Layout}
-use Rattle.word_layout.specs.declared.Layout.TheVariants.{Found, Unfound}
+use Rattle.word_layout.specs.Layout.{Layout}
 use Rattle.rule_words.specs.Rules.{broken}
 use Rattle.rule_first.specs.declared.Broken.{Broken}
 use Rattle.rule_first.specs.Broken.{first_in}
+use Rattle.rule_first.proofs.Breaking.{unbroken, breaks}
 use Rattle.buffer.specs.Over.{zeros}
 use Rattle.word_layout.specs.Limits.{laid_out}
 use Rattle.room_fill.specs.Room.{room_for}
-use Rattle.room_decode.specs.declared.Decoded.{Decoded}
-use Rattle.room_decode.specs.declared.Decoded.TheVariants.{Table, Refused}
-use Rattle.room_decode.specs.Decode.{said, judged, decoded_from, decode_of, kept_from, room_of}
+use Rattle.room_decode.specs.Decode.{Decoding, said, judged, decoded_from, decode_of, kept_from, room_of}
 
-module _ (w : List ℕ) (n : ℕ) {got : Layout} where
-  module _ {s : Sections} (g : got ≡ laid_out w n) (i : got ≡ Found s) where
-    -- no rule is broken, or one is
-    module _ {q : Broken} (b : q ≡ first_in w s) where
-      pub obeyed : {m t : ℕ} → q.rule ≡ 0 → m ≡ get_or w s.modes 0 → t ≡ get_or w s.states 0 → Table m t (length w) ≡ decode_of w n
+module _ (w : List ℕ) (n : ℕ) {got : Layout} (g : got ≡ laid_out w n) where
+  module _ {s : Sections} (i : got ≡ Ok s) {q : Option Broken} (b : q ≡ first_in w s) where
+    -- no rule is broken
+    module _ (o : (r : Broken) → q ≡ Some r → ⊥) where
+      z : q ≡ None
+      z = go q refl
+        where
+          go : (x : Option Broken) → q ≡ x → q ≡ None
+          go None i = i
+          go (Some r) i = absurd (o r i)
+
+      pub obeyed : {m t : ℕ} → m ≡ get_or w s.modes 0 → t ≡ get_or w s.states 0
+          → Ok (record { modes = m; states = t; words = length w }) ≡ decode_of w n
       unfolding decoded_from judged
-      obeyed z e f = let y : broken w s ≡ 0 = cc in rw (← g, i, y, e, f)
+      obeyed e f = let y : broken w s ≡ 0 = unbroken w s b z in rw (← g, i, y, e, f)
 
-      pub obeyed_room : {d : List ℕ} → q.rule ≡ 0 → d ≡ room_for w n got → d ≡ room_of w n
+      pub obeyed_room : {d : List ℕ} → d ≡ room_for w n got → d ≡ room_of w n
       unfolding kept_from
-      obeyed_room z h = let y : broken w s ≡ 0 = cc in h ∙ (rw (← g, i, y))
+      obeyed_room h = let y : broken w s ≡ 0 = unbroken w s b z in h ∙ (rw (← g, i, y))
 
-      pub broke : (q.rule ≡ 0 → ⊥) → Refused (broken_by q.rule q.item) ≡ decode_of w n
+    -- or one is
+    module _ {r : Broken} (z : q ≡ Some r) where
+      pub broke : Err (broken_by r.rule r.item) ≡ decode_of w n
       unfolding decoded_from judged
-      broke z = let y : eqb (broken w s) 0 ≡ false = ne_eqb (broken w s) 0 (λ e. z (let x : q.rule ≡ 0 = cc in x)) in rw (← g, i, y, b)
+      broke = let k = breaks w s b z in rw (← g, i, k.some, ← k.rule, ← k.item)
 
-      pub broke_room : (l : ℕ) {d : List ℕ} → d ≡ zeros l → l ≡ n → (q.rule ≡ 0 → ⊥) → d ≡ room_of w n
+      pub broke_room : (l : ℕ) {d : List ℕ} → d ≡ zeros l → l ≡ n → d ≡ room_of w n
       unfolding kept_from
-      broke_room l h j z =
-          let y : eqb (broken w s) 0 ≡ false = ne_eqb (broken w s) 0 (λ e. z (let x : q.rule ≡ 0 = cc in x)) in
-          h ∙ ap zeros j ∙ (rw (← g, i, y))
+      broke_room l h j = let k = breaks w s b z in h ∙ ap zeros j ∙ (rw (← g, i, k.some))
 
   -- the words are no table
-  pub halts : {r : Refusal} → got ≡ laid_out w n → got ≡ Unfound r → Refused r ≡ decode_of w n
-  unfolding decoded_from
-  halts g i = rw (← g, i)
+  module _ {r : Refusal} (i : got ≡ Err r) where
+    pub halts : Err r ≡ decode_of w n
+    unfolding decoded_from
+    halts = rw (← g, i)
 
-  pub halts_room : {r : Refusal} {d : List ℕ} → got ≡ laid_out w n → got ≡ Unfound r → d ≡ room_for w n got → d ≡ room_of w n
-  unfolding kept_from room_for
-  halts_room g i h = h ∙ (rw (← g, i))
+    pub halts_room : {d : List ℕ} → d ≡ room_for w n got → d ≡ room_of w n
+    unfolding kept_from room_for
+    halts_room h = h ∙ (rw (← g, i))
 
 -- what decoding is left with
 pub ruleset decoding = (rules, obeyed, obeyed_room, broke, broke_room, halts, halts_room)
 
 -- `said` takes no two answers to one: what it says gives the answer back
-abbrev back : Said → Decoded
-back (ok l) = Table (get_or l 0 0) (get_or l 1 0) (get_or l 2 0)
-back (no_by r) = Refused r
+abbrev back : Said → Decoding
+back (ok l) = Ok (record { modes = get_or l 0 0; states = get_or l 1 0; words = get_or l 2 0 })
+back (no_by r) = Err r
 
-back-said : (x : Decoded) → back (said x) ≡ x
-back-said (Table m s w) = refl
-back-said (Refused r) = refl
+back-said : (x : Decoding) → back (said x) ≡ x
+back-said (Ok t) = refl
+back-said (Err r) = refl
 
-pub said_one : (x y : Decoded) → said x ≡ said y → x ≡ y
+pub said_one : (x y : Decoding) → said x ≡ said y → x ≡ y
 said_one x y e = sym (back-said x) ∙ ap back e ∙ back-said y

@@ -13,41 +13,32 @@ ghost use Rattle.room_decode.specs.Decode.{decode_of, room_of};
 
 use refusal::{INDEX, Refusal};
 use rule_words::word_at;
-use word_layout::Layout;
 
-// A table, by the number of its modes, states and words, or why the words are none.
+// A table, by the number of its modes, states and words.
 #[derive(Clone, Copy)]
-pub enum Decoded {
-    Table {
-        modes: u32,
-        states: u32,
-        words: usize,
-    },
-    Refused(Refusal),
+pub struct Decoded {
+    pub modes: u32,
+    pub states: u32,
+    pub words: usize,
 }
 
 // Decodes a table into the room. Refused: every number of the room is 0. Accepted: the table's numbers, then zeros.
-pub fn decode(words: &[u32], room: &mut [u32]) -> Decoded
+pub fn decode(words: &[u32], room: &mut [u32]) -> Result<Decoded, Refusal>
     ensures { (result ≡ decode_of words.now (length room.old))
         × (room.new ≡ room_of words.now (length room.old)) }
 {
-    match room_fill::fill(words, room) {
-        Layout::Found(s) => {
-            let broken = rule_first::first_broken(words, s);
-            if broken.rule == 0 {
-                return Decoded::Table {
-                    modes: word_at(words, s.modes),
-                    states: word_at(words, s.states),
-                    words: words.len(),
-                };
-            }
-            buffer::clear(room);
-            Decoded::Refused(Refusal {
-                number: INDEX,
-                item: broken.item,
-                place: broken.rule as usize,
-            })
-        }
-        Layout::Unfound(r) => Decoded::Refused(r),
+    let s = room_fill::fill(words, room)?;
+    if let Some(broken) = rule_first::first_broken(words, s) {
+        buffer::clear(room);
+        return Err(Refusal {
+            number: INDEX,
+            item: broken.item,
+            place: broken.rule as usize,
+        });
     }
+    Ok(Decoded {
+        modes: word_at(words, s.modes),
+        states: word_at(words, s.states),
+        words: words.len(),
+    })
 }

@@ -1,170 +1,143 @@
--- The laws of writing one record, by the tests and stores that the code makes. Assumes nothing.
-use Prim.Native.Nat.{ℕ, ◌+◌, ◌*◌, ◌-◌, ◌^◌, ◌<◌, ◌≤◌}
+-- The laws of writing one record with flags, and a continuation. Assumes nothing.
+use Prim.Native.Nat.{ℕ, suc, ◌+◌, ◌*◌, ◌-◌, ◌<◌, ◌≤◌}
+use native.Mathlib.Numerals.{add-one}
 use native.Mathlib.Omega.{arith}
-use mathlib.Core.Path.{◌≡◌, refl, sym, ap, ◌∙◌}
-use mathlib.Core.List.{List, [], ◌∷◌, ◌++◌}
-use mir.Syntax.{w64}
-use mir.Val.{Fits}
-use borrow.Author.Rules.{rules}
-use borrow.Author.Tests.{eq-eqb, ne_eqb, ltb-true}
-use mathlib.Core.Bool.{true}
-use lib.Dec.{ltb}
-use lib.ListN.{length, get_or, set}
-use Rattle.refusal.specs.Lists.{each}
-use Rattle.word_reader.specs.declared.Place.{Place}
-use Rattle.word_reader.specs.declared.Place.TheVariants.{Next}
-use Rattle.word_reader.specs.Records.{config_at, continuation_at}
+use mathlib.Core.Path.{◌≡◌, refl, ap, ◌∙◌}
+use mathlib.Core.List.{List, ◌∷◌, ◌++◌}
+use mathlib.Core.Bool.{Bool, true, false, not}
+use mir.Val.{bool_byte}
+use lib.Dec.{eqb}
+use Rattle.refusal.specs.Lists.{pick}
+use lib.ListN.{length, get_or, take, drop, length-append, length-take, length-drop}
+use lib.Seq.{drop-cons, take_all}
+use Rattle.std.specs.Prelude.{map, Ok}
+use Rattle.std.proofs.lemmas.List.{length-map}
+use Rattle.word_reader.specs.Records.{accept_at, config_at, continuation_at}
 use Rattle.word_reader.proofs.Bounds.{accept-sized, config_sized, configs_behind, section_in}
 use Rattle.buffer.specs.Over.{Put}
-use Rattle.buffer.proofs.Overs.{lay-none}
-use Rattle.buffer.proofs.Going.{put_one}
-use Rattle.room_fill.specs.Room.{copied, flag, renewed, accept_made, config_made, continuation_made, in_room, shifted}
-use Rattle.room_fill.specs.declared.Flagged.{Flagged}
-use Rattle.room_fill.specs.declared.Flagged.TheVariants.{Accept, Config}
-use Rattle.room_fill.specs.Flagged.{leads, flags, flagged_at, flagged_made}
-use Rattle.room_fill.proofs.Parts.{first_room, middle_room, three_room, three_put, two-room, two_put}
-use Rattle.room_fill.proofs.Writing.{copied_open, copied_done}
-
--- A place inside a list is a number of the machine
-
-pub inner_fits : (i n : ℕ) → i < n → n * 4 < 2 ^ 63 → Fits w64 i
-inner_fits i n h k = omega arith
+use Rattle.room_fill.specs.Room.{copied, flag, renewed, accept_made, config_made, continuation_made}
+use Rattle.room_fill.specs.Flagged.{flagged}
+use Rattle.room_fill.proofs.Parts.{first_room, two-room, two_put, three_put}
+use Rattle.room_fill.proofs.Sizes.{accept-sized-made, config_sized_made}
 
 -- A flag
 
-pub flag_0 : (x : ℕ) → x ≡ 0 → 0 ≡ flag x
+pub flag_is : (x : ℕ) {r : ℕ} → r ≡ bool_byte (not (eqb x 0)) → r ≡ flag x
 unfolding flag
-flag_0 x h = rw (eq-eqb x 0 h)
+flag_is x h = h ∙ go (eqb x 0)
+  where
+    go : (b : Bool) → bool_byte (not b) ≡ pick b 0 1
+    go true = refl
+    go false = refl
 
-pub flag_1 : (x : ℕ) → (x ≡ 0 → ⊥) → 1 ≡ flag x
-unfolding flag
-flag_1 x h = rw (ne_eqb x 0 h)
+-- One record's words
 
-pub ruleset flagging = (rules, flag_0, flag_1)
+-- the words of the record from a place to before another: within the words, with room for k words and k flags, as long as what is made of them
+pub record IsRead (w : List ℕ) (at behind k : ℕ) (made : List ℕ) : Type 0 where
+  pub order : at ≤ behind
+  pub within : behind ≤ length w
+  pub flags : k + k ≤ length (take (behind - at) (drop at w))
+  pub long : length (take (behind - at) (drop at w)) ≡ length made
 
--- A place
+module _ (w : List ℕ) where
+  opened : (at left : ℕ) → 0 < left → at < length w → take left (drop at w) ≡ get_or w at 0 ∷ take (left - 1) (drop (at + 1) w)
+  opened at left h k = let i : left ≡ suc (left - 1) = omega arith in ap (λ (n : ℕ). take n (drop at w)) i ∙ (rw (drop-cons w at 0 k, add-one))
 
-pub place_put : (p n : ℕ) (d : List ℕ) → n + length (shifted p) ≤ length d → Put (shifted p) n d (n + 1) (set d n (in_room p))
-place_put p n d h = put_one (in_room p) [] n d (record { next = omega arith; is = sym (lay-none (n + 1) _) }) (omega arith)
+  -- the words of the record from a place to before another, within the words
+  part_length : (at behind : ℕ) → behind ≤ length w → length (take (behind - at) (drop at w)) ≡ behind - at
+  part_length at behind h = omega (arith, length-take (behind - at) (drop at w), length-drop at w)
 
-pub ruleset shifting = (rules, place_put)
+-- k words, k flags, and the rest were written one behind the other
+pub flagged_put : (k : ℕ) (l : List ℕ) (n : ℕ) (d : List ℕ) {n₁ n₂ n₃ : ℕ} {d₁ d₂ d₃ : List ℕ} → k + k ≤ length l → n + length l ≤ length d
+    → Put (take k l) n d n₁ d₁ → Put (map flag (take (k + k - k) (drop k l))) n₁ d₁ n₂ d₂
+    → Put (take (length l - (k + k)) (drop (k + k) l)) n₂ d₂ n₃ d₃ → Put (flagged k l) n d n₃ d₃
+unfolding flagged
+flagged_put k l n d h r p q t =
+    let i : k + k - k ≡ k = omega arith in
+    let j : take (length l - (k + k)) (drop (k + k) l) ≡ drop (k + k) l = take_all _ _ (omega (arith, length-drop (k + k) l)) in
+    let A = take k l in
+    let B = map flag (take k (drop k l)) in
+    let C = drop (k + k) l in
+    three_put A B C n d (rw j at t) (rw i at q) p (omega (
+      arith,
+      length-append A (B ++ C),
+      length-append B C,
+      length-map (take k (drop k l)) flag,
+      length-take k l,
+      length-take k (drop k l),
+      length-drop k l,
+      length-drop (k + k) l,
+    ))
 
--- A record with flags: k words, k flags, and the rest
+module _ (w : List ℕ) (at behind : ℕ) where
+  module _ (e : accept_at w at ≡ Ok behind) where
+    pub accept_is : flagged 1 (take (behind - at) (drop at w)) ≡ accept_made w at
+    unfolding flagged accept_made copied
+    accept_is =
+        let r = accept-sized w at behind e in
+        let i : at + 1 + 1 ≡ at + 2 = omega arith in
+        let j : behind - at - 1 - 1 ≡ get_or w (at + 2) 0 * 3 + 1 = omega arith in
+        rw (opened w at (behind - at) (omega arith) (omega arith), opened w (at + 1) (behind - at - 1) (omega arith) (omega arith), i, j)
 
--- what the kind is for
-pub of_kind : (w : List ℕ) (at : ℕ) {k one : Flagged} {r : Place} → k ≡ one → r ≡ flagged_at one w at → r ≡ flagged_at k w at
-of_kind w at e h = rw e h
+    pub accept_read : IsRead w at behind 1 (accept_made w at)
+    accept_read =
+        let r = accept-sized w at behind e in
+        let l = part_length w at behind r.1 in
+        record { order = omega arith; within = r.1; flags = omega arith; long = omega (arith, accept-sized-made w at behind e) }
 
-pub leads_of : {k one : Flagged} {r : ℕ} → k ≡ one → r ≡ leads one → r ≡ leads k
-leads_of e h = rw e h
+  module _ (e : config_at w at ≡ Ok behind) where
+    pub config_is : flagged 2 (take (behind - at) (drop at w)) ≡ config_made w at
+    unfolding flagged config_made copied
+    config_is =
+        let r = config_sized w at behind e in
+        let i₂ : at + 1 + 1 ≡ at + 2 = omega arith in
+        let i₃ : at + 2 + 1 ≡ at + 3 = omega arith in
+        let i₄ : at + 3 + 1 ≡ at + 4 = omega arith in
+        let j : behind - at - 1 - 1 - 1 - 1 ≡ get_or w (at + 5) 0 * 3 + 2 = omega arith in
+        rw (
+          opened w at (behind - at) (omega arith) (omega arith),
+          opened w (at + 1) (behind - at - 1) (omega arith) (omega arith),
+          i₂,
+          opened w (at + 2) (behind - at - 1 - 1) (omega arith) (omega arith),
+          i₃,
+          opened w (at + 3) (behind - at - 1 - 1 - 1) (omega arith) (omega arith),
+          i₄,
+          j,
+        )
 
-pub ruleset kinds = (rules, of_kind, leads_of)
-
-module _ (w : List ℕ) (at : ℕ) where
-  copied_one : at < length w → copied w at 1 ≡ get_or w at 0 ∷ []
-  copied_one h = copied_open w at 1 (omega arith) (omega arith) ∙ ap (λ (l : List ℕ). get_or w at 0 ∷ l) (copied_done w (at + 1) 0 (omega arith))
-
-  copied-two : at + 1 < length w → copied w at 2 ≡ get_or w at 0 ∷ get_or w (at + 1) 0 ∷ []
-  copied-two h = copied_open w at 2 (omega arith) (omega arith) ∙ ap (λ (l : List ℕ). get_or w at 0 ∷ l)
-      (copied_open w (at + 1) 1 (omega arith) (omega arith) ∙ ap (λ (l : List ℕ). get_or w (at + 1) 0 ∷ l) (copied_done w (at + 1 + 1) 0 (omega arith)))
-
-module _ (w : List ℕ) (at : ℕ) {behind : ℕ} where
-  sized : (kind : Flagged) → flagged_at kind w at ≡ Next behind → (at + leads kind + leads kind < behind) × (behind ≤ length w)
-  sized Accept e = let r = accept-sized w at behind e in (omega arith, r.1)
-  sized Config e = let r = config_sized w at behind e in (omega arith, r.1)
-
-  made_of : (kind : Flagged) → flagged_at kind w at ≡ Next behind
-      → flagged_made kind w at ≡ copied w at (leads kind)
-      ++ (flags w (at + leads kind) (leads kind) ++ copied w (at + leads kind + leads kind) (behind - (at + leads kind + leads kind)))
-  unfolding accept_made config_made flags each
-  made_of Accept e =
-      let r = accept-sized w at behind e in
-      let i : behind - (at + 2) ≡ get_or w (at + 2) 0 * 3 + 1 = omega arith in
-      let j : at + 1 + 1 ≡ at + 2 = omega arith in
-      rw (copied_one w at (omega arith), copied_one w (at + 1) (omega arith), j, i)
-  made_of Config e =
-      let r = config_sized w at behind e in
-      let i : behind - (at + 4) ≡ get_or w (at + 5) 0 * 3 + 2 = omega arith in
-      let j : at + 2 + 2 ≡ at + 4 = omega arith in
-      let k : at + 2 + 1 ≡ at + 3 = omega arith in
-      rw (copied-two w at (omega arith), copied-two w (at + 2) (omega arith), j, k, i)
-
-  module _ (kind : Flagged) {k : ℕ} (i : k ≡ leads kind) (e : flagged_at kind w at ≡ Next behind) where
-    abbrev front : List ℕ
-    front = copied w at k
-
-    abbrev middle : List ℕ
-    middle = flags w (at + k) k
-
-    abbrev rest : List ℕ
-    rest = copied w (at + k + k) (behind - (at + k + k))
-
-    made_in : flagged_made kind w at ≡ front ++ (middle ++ rest)
-    made_in = rw i (made_of kind e)
-
-    pub flags_behind : at + k + k ≤ behind
-    flags_behind = let r = sized kind e in omega (arith, r.0)
-
-    pub leads-within : at + k ≤ length w
-    leads-within = let r = sized kind e in omega (arith, r.0, r.1)
-
-    pub flags-within : at + k + k ≤ length w
-    flags-within = let r = sized kind e in omega (arith, r.0, r.1)
-
-    pub rest-within : at + k + k + (behind - (at + k + k)) ≤ length w
-    rest-within = let r = sized kind e in omega (arith, r.0, r.1)
-
-    module _ (n : ℕ) (d : List ℕ) (h : n + length (flagged_made kind w at) ≤ length d) where
-      pub flagged_room_0 : n + length front ≤ length d
-      flagged_room_0 = first_room front (middle ++ rest) n d (rw made_in at h)
-
-      module _ {n₁ : ℕ} {d₁ : List ℕ} (p : Put front n d n₁ d₁) where
-        pub flagged_room_1 : n₁ + length middle ≤ length d₁
-        flagged_room_1 = middle_room front middle rest n d p (rw made_in at h)
-
-        module _ {n₂ : ℕ} {d₂ : List ℕ} (q : Put middle n₁ d₁ n₂ d₂) where
-          pub flagged_room_2 : n₂ + length rest ≤ length d₂
-          flagged_room_2 = three_room front middle rest n d q p (rw made_in at h)
-
-          pub flagged_put : {n₃ : ℕ} {d₃ : List ℕ} → Put rest n₂ d₂ n₃ d₃ → Put (flagged_made kind w at) n d n₃ d₃
-          flagged_put t = rw made_in (three_put front middle rest n d t q p (rw made_in at h))
-
--- a place in the words is a number of the machine
-pub up_to_fits : (i n : ℕ) → i ≤ n → n * 4 < 2 ^ 63 → Fits w64 i
-up_to_fits i n h k = omega arith
-
-pub ruleset flagged = (rules, up_to_fits, flags_behind, leads-within, flags-within, rest-within, flagged_room_0, flagged_room_1, flagged_room_2, flagged_put)
+    pub config_read : IsRead w at behind 2 (config_made w at)
+    config_read =
+        let r = config_sized w at behind e in
+        let l = part_length w at behind r.1 in
+        record { order = omega arith; within = r.1; flags = omega arith; long = omega (arith, config_sized_made w at behind e) }
 
 -- A continuation: its contexts take k words
 
-module _ (w : List ℕ) (at k : ℕ) where
-  pub continuation_configs : {behind : ℕ} → k ≡ get_or w at 0 * 3 + 1 → continuation_at w at ≡ Next behind → at + k < length w
-  continuation_configs {behind} i e = rw i (section_in config_at w _ behind (configs_behind w at behind e)).0
+module _ (w : List ℕ) (at : ℕ) {behind : ℕ} (e : continuation_at w at ≡ Ok behind) where
+  abbrev k : ℕ
+  k = get_or w at 0 * 3 + 1
 
-  pub continuation_words_lem : {behind : ℕ} → k ≡ get_or w at 0 * 3 + 1 → continuation_at w at ≡ Next behind → at + k ≤ length w
-  continuation_words_lem i e = omega (arith, continuation_configs i e)
+  pub configs_there : at + k < length w
+  configs_there = (section_in config_at w _ behind (configs_behind w at behind e)).0
 
-  module _ (n : ℕ) (d : List ℕ) (i : k ≡ get_or w at 0 * 3 + 1) where
+  module _ (n : ℕ) (d : List ℕ) (h : n + length (continuation_made w at) ≤ length d) where
+    -- the contexts, as `&words[at..at + k]` reads them
+    abbrev contexts : List ℕ
+    contexts = take (at + k - at) (drop at w)
+
     abbrev configs : List ℕ
     configs = renewed config_at config_made w (at + k)
 
-    parts : continuation_made w at ≡ copied w at k ++ configs
-    unfolding continuation_made
-    parts = rw i
+    joined : continuation_made w at ≡ contexts ++ configs
+    unfolding continuation_made copied
+    joined = let i : at + k - at ≡ k = omega arith in rw i
 
-    module _ (h : n + length (continuation_made w at) ≤ length d) where
-      pub continuation_first : n + length (copied w at k) ≤ length d
-      continuation_first = first_room (copied w at k) configs n d (rw parts at h)
+    pub contexts_fit : n + length contexts ≤ length d
+    contexts_fit = first_room contexts configs n d (rw joined at h)
 
-      module _ {r : ℕ} {new : List ℕ} (p : Put (copied w at k) n d r new) where
-        pub continuation_second : r + length configs ≤ length new
-        continuation_second = two-room (copied w at k) configs n d p (rw parts at h)
+    module _ {n₁ : ℕ} {d₁ : List ℕ} (p : Put contexts n d n₁ d₁) where
+      pub configs_fit : n₁ + length configs ≤ length d₁
+      configs_fit = two-room contexts configs n d p (rw joined at h)
 
-        pub continuation_put : {q : ℕ} {final : List ℕ} → Put configs r new q final → Put (continuation_made w at) n d q final
-        continuation_put t = rw parts (two_put (copied w at k) configs n d t p (rw parts at h))
-
-pub continuation-count : (w : List ℕ) (at : ℕ) {behind : ℕ} → continuation_at w at ≡ Next behind → at < length w
-continuation-count w at e = omega (arith, continuation_configs w at (get_or w at 0 * 3 + 1) refl e)
-
-pub ruleset continuing =
-    (rules, inner_fits, continuation_configs, continuation-count, continuation_words_lem, continuation_first, continuation_second, continuation_put)
+      pub continuation_put : {n₂ : ℕ} {d₂ : List ℕ} → Put configs n₁ d₁ n₂ d₂ → Put (continuation_made w at) n d n₂ d₂
+      continuation_put t = rw joined (two_put contexts configs n d t p (rw joined at h))

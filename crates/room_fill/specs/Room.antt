@@ -1,22 +1,20 @@
 -- The room of a table: a header of nine numbers, the words with flags made 0 or 1, and where each record of variable length starts.
 -- Below, w are the words, and s the places of the counts of their sections. Assumes nothing.
-use Rattle.std.specs.Prelude.{ℕ, zero, suc, ◌+◌, ◌*◌, ◌-◌, List, [], ◌∷◌, ◌++◌, length, get_or, take, drop, eqb}
+use Rattle.std.specs.Prelude.{ℕ, zero, suc, ◌+◌, ◌*◌, ◌-◌, List, [], ◌∷◌, ◌++◌, length, get_or, take, drop, eqb, map, Ok, Err}
 use Rattle.refusal.specs.Lists.{pick, each}
 use Rattle.refusal.specs.Header.{HEADER-NUMBERS}
-use Rattle.word_reader.specs.declared.Place.{Place}
-use Rattle.word_reader.specs.declared.Place.TheVariants.{Next, Refused}
+use Rattle.word_reader.specs.Parse.{Place}
 use Rattle.word_reader.specs.Records.{run_at, wide_at, accept_at, escape_at, config_at, continuation_at}
 use Rattle.word_reader.specs.declared.Sections.{Sections}
-use Rattle.word_layout.specs.declared.Layout.{Layout}
-use Rattle.word_layout.specs.declared.Layout.TheVariants.{Found, Unfound}
+use Rattle.word_layout.specs.Layout.{Layout}
 use Rattle.buffer.specs.Over.{zeros, padded}
 
 -- Records, one behind the other
 
 -- where each of n records starts
 unfoldable pub starts_from : Place → ℕ → (ℕ → List ℕ) → List ℕ
-starts_from (Next p) at k = at ∷ k p
-starts_from (Refused r) at k = []
+starts_from (Ok p) at k = at ∷ k p
+starts_from (Err r) at k = []
 
 unfoldable pub starts : (ℕ → Place) → ℕ → ℕ → List ℕ
 starts f zero at = []
@@ -69,12 +67,13 @@ shifted p = in_room p ∷ []
 unfoldable pub placed : (List ℕ → ℕ → Place) → List ℕ → ℕ → List ℕ
 placed read w at = each shifted (starts (read w) (get_or w at 0) (at + 1))
 
-abbrev pub four : ℕ → ℕ → ℕ → ℕ → List ℕ
-four a b c d = in_room a ∷ in_room b ∷ in_room c ∷ in_room d ∷ []
+-- the places of the sections' counts
+abbrev pub eight : Sections → List ℕ
+eight s = s.modes ∷ s.states ∷ s.runs ∷ s.ascii ∷ s.wide ∷ s.accepts ∷ s.escapes ∷ s.continuations ∷ []
 
 -- the word count, and where the sections' counts stand
 unfoldable pub header : List ℕ → Sections → List ℕ
-header w s = length w ∷ (four s.modes s.states s.runs s.ascii ++ four s.wide s.accepts s.escapes s.continuations)
+header w s = length w ∷ map in_room (eight s)
 
 -- where the accepts, the escape rows and the continuations start
 abbrev pub later_places : List ℕ → Sections → List ℕ
@@ -92,5 +91,5 @@ numbers w s = header w s ++ (made w s ++ places w s)
 
 -- "Refused: all outputs zero. Accepted: outputs past the answer's length zero."
 unfoldable pub room_for : List ℕ → ℕ → Layout → List ℕ
-room_for w n (Found s) = padded n (numbers w s)
-room_for w n (Unfound r) = zeros n
+room_for w n (Ok s) = padded n (numbers w s)
+room_for w n (Err r) = zeros n

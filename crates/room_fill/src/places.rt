@@ -1,24 +1,21 @@
-// Writes where the records of variable length start in the room, from place `n` of it on, and answers the place behind what was written.
+// Where the words of a table and its records stand in the room.
 ghost use Rattle.std.specs.Prelude.{◌≡◌, ◌≤◌, ◌<◌, ◌+◌, length};
 ghost use Rattle.word_sections.specs.Kinds.{record_at};
 ghost use Rattle.buffer.specs.Over.{Put};
-ghost use Rattle.room_fill.specs.Room.{shifted, placed};
+ghost use Rattle.room_fill.specs.Room.{in_room, placed};
 
 use refusal::HEADER_NUMBERS;
-use word_reader::Place;
 use word_sections::Kind;
 
-// The place in the room of the record at `at`.
-fn put_place(at: usize, room: &mut [u32], n: usize) -> usize
-    requires within { at ≤ 8192 }
-    requires fits { n + length (shifted at) ≤ length room.old }
-    ensures { Put (shifted at) n room.old result room.new }
+// The place in the room of what is at `at` of the words, which stand behind the header.
+pub(crate) fn in_room(at: usize) -> u32
+    requires { at ≤ 8192 }
+    ensures { result ≡ in_room at }
 {
-    room[n] = (at + HEADER_NUMBERS) as u32;
-    n + 1
+    (at + HEADER_NUMBERS) as u32
 }
 
-// Of the records of a kind, whose count stands at `at`.
+// Writes, from place `n` of the room on, the places of the records of a kind, whose count stands at `at`, and answers the place behind them.
 pub(crate) fn put_record_places(
     kind: Kind,
     words: &[u32],
@@ -32,19 +29,14 @@ pub(crate) fn put_record_places(
     ensures { Put (placed (record_at kind) words.now at) n room.old result room.new }
 {
     let mut here = at + 1;
-    let mut left = words[at];
     let mut m = n;
-    while 0 < left {
-        match word_sections::read_record(kind, words, here) {
-            Place::Next(p) => {
-                m = put_place(here, room, m);
-                here = p;
-                left -= 1;
-            }
-            Place::Refused(_) => {
-                return m;
-            }
-        }
+    for _i in 0..words[at] {
+        let Ok(behind) = word_sections::read_record(kind, words, here) else {
+            return m;
+        };
+        room[m] = in_room(here);
+        m += 1;
+        here = behind;
     }
     m
 }

@@ -1,174 +1,136 @@
 // Writes the words of a table, flags made 0 or 1, section by section. Each function writes from place `n` of the room on and answers the
 // place behind what it wrote.
-ghost use Rattle.std.specs.Prelude.{◌≡◌, ◌≤◌, ◌<◌, ◌+◌, ◌*◌, length};
-ghost use Rattle.word_reader.specs.Records.{continuation_at};
-ghost use Rattle.word_reader.specs.declared.Place.TheVariants.{Next};
+ghost use Rattle.std.specs.Prelude.{◌≡◌, ◌≤◌, ◌<◌, ◌+◌, ◌*◌, ℕ, List, length, map, Ok};
+ghost use Rattle.word_reader.specs.Parse.{Place};
+ghost use Rattle.word_reader.specs.Records.{accept_at, config_at, continuation_at};
 ghost use Rattle.buffer.specs.Over.{Put};
-ghost use Rattle.room_fill.specs.Room.{copied, flag, renewed, continuation_made};
-ghost use Rattle.room_fill.specs.Flagged.{leads, flags, flagged_at, flagged_made};
+ghost use Rattle.room_fill.specs.Room.{flag, renewed, accept_made, config_made, continuation_made};
+ghost use Rattle.room_fill.specs.Flagged.{flagged};
 
-use crate::Flagged;
-use word_reader::Place;
+use refusal::Refusal;
 
-// Where a record with flags ends.
-fn read_flagged(kind: Flagged, words: &[u32], at: usize) -> Place
-    ensures { result ≡ flagged_at kind words.now at }
-{
-    match kind {
-        Flagged::Accept => word_records::read_accept(words, at),
-        Flagged::Config => word_records::read_config(words, at),
+// A kind of record that has flags: how one is read, and how it is written.
+pub(crate) trait Renewed {
+    ghost ends: { List ℕ → ℕ → Place };
+
+    ghost made: { List ℕ → ℕ → List ℕ };
+
+    fn read(words: &[u32], at: usize) -> Result<usize, Refusal>
+        ensures { result ≡ ends words.now at };
+
+    // The record at `at`, which ends at `behind`.
+    fn put(words: &[u32], at: usize, behind: usize, room: &mut [u32], n: usize) -> usize
+        requires read { ends words.now at ≡ Ok behind }
+        requires fits { n + length (made words.now at) ≤ length room.old }
+        ensures { Put (made words.now at) n room.old result room.new };
+}
+
+pub(crate) struct Accept;
+
+struct Config;
+
+pub(crate) struct Continuation;
+
+// One word stands before its flag.
+impl Renewed for Accept {
+    ghost ends = { accept_at };
+
+    ghost made = { accept_made };
+
+    fn read(words: &[u32], at: usize) -> Result<usize, Refusal> {
+        word_records::read_accept(words, at)
+    }
+
+    fn put(words: &[u32], at: usize, behind: usize, room: &mut [u32], n: usize) -> usize {
+        put_flagged(1, &words[at..behind], room, n)
     }
 }
 
-// How many words it has before its flags, which are as many.
-fn leads(kind: Flagged) -> usize
-    ensures { result ≡ leads kind }
-{
-    match kind {
-        Flagged::Accept => 1,
-        Flagged::Config => 2,
+// Two words stand before its two flags.
+impl Renewed for Config {
+    ghost ends = { config_at };
+
+    ghost made = { config_made };
+
+    fn read(words: &[u32], at: usize) -> Result<usize, Refusal> {
+        word_records::read_config(words, at)
+    }
+
+    fn put(words: &[u32], at: usize, behind: usize, room: &mut [u32], n: usize) -> usize {
+        put_flagged(2, &words[at..behind], room, n)
+    }
+}
+
+// It has no flags but those of its configs, which stand behind its contexts.
+impl Renewed for Continuation {
+    ghost ends = { continuation_at };
+
+    ghost made = { continuation_made };
+
+    fn read(words: &[u32], at: usize) -> Result<usize, Refusal> {
+        word_records::read_continuation(words, at)
+    }
+
+    fn put(words: &[u32], at: usize, _behind: usize, room: &mut [u32], n: usize) -> usize {
+        let configs = at + (words[at] as usize * 3 + 1);
+        let m = copy_words(&words[at..configs], room, n);
+        renew::<Config>(words, configs, room, m)
     }
 }
 
 fn flag(x: u32) -> u32
     ensures { result ≡ flag x }
 {
-    if x == 0 { 0 } else { 1 }
+    u32::from(x != 0)
 }
 
-// `count` words from `at`, as they are.
-pub(crate) fn copy_words(
-    words: &[u32],
-    at: usize,
-    count: usize,
-    room: &mut [u32],
-    n: usize,
-) -> usize
-    requires within { at + count ≤ length words.now }
-    requires fits { n + length (copied words.now at count) ≤ length room.old }
-    ensures { Put (copied words.now at count) n room.old result room.new }
+// These words, as they are.
+pub(crate) fn copy_words(words: &[u32], room: &mut [u32], n: usize) -> usize
+    requires { n + length words.now ≤ length room.old }
+    ensures { Put words.now n room.old result room.new }
 {
-    let mut here = at;
-    let mut left = count;
-    let mut m = n;
-    while 0 < left {
-        room[m] = words[here];
-        here += 1;
-        left -= 1;
-        m += 1;
+    let behind = n + words.len();
+    room[n..behind].copy_from_slice(words);
+    behind
+}
+
+// These words, each made a flag.
+fn put_flags(words: &[u32], room: &mut [u32], n: usize) -> usize
+    requires { n + length words.now ≤ length room.old }
+    ensures { Put (map flag words.now) n room.old result room.new }
+{
+    for (i, x) in words.iter().enumerate() {
+        room[n + i] = flag(*x);
     }
-    m
+    n + words.len()
 }
 
-// `count` flags from `at`.
-fn put_flags(words: &[u32], at: usize, count: usize, room: &mut [u32], n: usize) -> usize
-    requires within { at + count ≤ length words.now }
-    requires fits { n + length (flags words.now at count) ≤ length room.old }
-    ensures { Put (flags words.now at count) n room.old result room.new }
+// The words of a record that has `k` words, `k` flags, and the rest.
+fn put_flagged(k: usize, words: &[u32], room: &mut [u32], n: usize) -> usize
+    requires within { k + k ≤ length words.now }
+    requires fits { n + length words.now ≤ length room.old }
+    ensures { Put (flagged k words.now) n room.old result room.new }
 {
-    let mut here = at;
-    let mut left = count;
-    let mut m = n;
-    while 0 < left {
-        room[m] = flag(words[here]);
-        here += 1;
-        left -= 1;
-        m += 1;
-    }
-    m
+    let a = copy_words(&words[..k], room, n);
+    let b = put_flags(&words[k..k + k], room, a);
+    copy_words(&words[k + k..], room, b)
 }
 
-// The record with flags at `at`, which ends at `behind`.
-fn put_flagged(
-    kind: Flagged,
-    words: &[u32],
-    at: usize,
-    behind: usize,
-    room: &mut [u32],
-    n: usize,
-) -> usize
-    requires read { flagged_at kind words.now at ≡ Next behind }
-    requires fits { n + length (flagged_made kind words.now at) ≤ length room.old }
-    ensures { Put (flagged_made kind words.now at) n room.old result room.new }
-{
-    let k = leads(kind);
-    let flags = at + k;
-    let rest = flags + k;
-    let a = copy_words(words, at, k, room, n);
-    let b = put_flags(words, flags, k, room, a);
-    copy_words(words, rest, behind - rest, room, b)
-}
-
-// The accepts, or the configs of a continuation, whose count stands at `at`.
-pub(crate) fn renew_flagged(
-    kind: Flagged,
-    words: &[u32],
-    at: usize,
-    room: &mut [u32],
-    n: usize,
-) -> usize
+// The section of a kind of record, whose count stands at `at`.
+pub(crate) fn renew<R: Renewed>(words: &[u32], at: usize, room: &mut [u32], n: usize) -> usize
     requires within { at < length words.now }
-    requires fits { n + length (renewed (flagged_at kind) (flagged_made kind) words.now at) ≤ length room.old }
-    ensures { Put (renewed (flagged_at kind) (flagged_made kind) words.now at) n room.old result room.new }
+    requires fits { n + length (renewed R.ends R.made words.now at) ≤ length room.old }
+    ensures { Put (renewed R.ends R.made words.now at) n room.old result room.new }
 {
-    let mut left = words[at];
+    room[n] = words[at];
     let mut here = at + 1;
-    room[n] = left;
     let mut m = n + 1;
-    while 0 < left {
-        match read_flagged(kind, words, here) {
-            Place::Next(p) => {
-                m = put_flagged(kind, words, here, p, room, m);
-                here = p;
-                left -= 1;
-            }
-            Place::Refused(_) => {
-                return m;
-            }
-        }
-    }
-    m
-}
-
-// How many words the contexts take, with their count.
-fn contexts_size(count: u32) -> usize
-    ensures { result ≡ count * 3 + 1 }
-{
-    count as usize * 3 + 1
-}
-
-// The continuation at `at`, which ends at `behind`.
-fn put_continuation(words: &[u32], at: usize, behind: usize, room: &mut [u32], n: usize) -> usize
-    requires read { continuation_at words.now at ≡ Next behind }
-    requires fits { n + length (continuation_made words.now at) ≤ length room.old }
-    ensures { Put (continuation_made words.now at) n room.old result room.new }
-{
-    let contexts = contexts_size(words[at]);
-    let m = copy_words(words, at, contexts, room, n);
-    renew_flagged(Flagged::Config, words, at + contexts, room, m)
-}
-
-// The section of continuations, whose count stands at `at`.
-pub(crate) fn renew_continuations(words: &[u32], at: usize, room: &mut [u32], n: usize) -> usize
-    requires within { at < length words.now }
-    requires fits { n + length (renewed continuation_at continuation_made words.now at) ≤ length room.old }
-    ensures { Put (renewed continuation_at continuation_made words.now at) n room.old result room.new }
-{
-    let mut left = words[at];
-    let mut here = at + 1;
-    room[n] = left;
-    let mut m = n + 1;
-    while 0 < left {
-        match word_records::read_continuation(words, here) {
-            Place::Next(p) => {
-                m = put_continuation(words, here, p, room, m);
-                here = p;
-                left -= 1;
-            }
-            Place::Refused(_) => {
-                return m;
-            }
-        }
+    for _i in 0..words[at] {
+        let Ok(behind) = R::read(words, here) else {
+            return m;
+        };
+        m = R::put(words, here, behind, room, m);
+        here = behind;
     }
     m
 }

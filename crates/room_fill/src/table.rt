@@ -1,94 +1,98 @@
-// Writes all numbers of a table whose sections were found: the header, the words, the places.
-ghost use Rattle.std.specs.Prelude.{◌≡◌, ◌≤◌, ◌+◌, length};
+// Writes all numbers of a table whose sections were found: the header, the words, the places. Each method but the first two writes from
+// place `n` of the room on; each answers the place behind what it wrote.
+ghost use Rattle.std.specs.Prelude.{◌≡◌, ◌≤◌, ◌+◌, length, Ok};
 ghost use Rattle.refusal.specs.Header.{HEADER-NUMBERS};
-ghost use Rattle.word_layout.specs.declared.Layout.TheVariants.{Found};
 ghost use Rattle.word_layout.specs.Layout.{layout_of};
 ghost use Rattle.buffer.specs.Over.{Put};
-ghost use Rattle.room_fill.specs.Room.{four, header, later_made, made, later_places, places, numbers};
+ghost use Rattle.room_fill.specs.Room.{header, later_made, made, later_places, places, numbers};
 
-use crate::{Flagged, places, renew};
-use refusal::{HEADER_NUMBERS, MODES_START, WORD_COUNT};
+use crate::places::{in_room, put_record_places};
+use crate::renew::{Accept, Continuation, copy_words, renew};
+use refusal::{MODES_START, WORD_COUNT};
 use word_reader::Sections;
 use word_sections::Kind;
 
-// Four places, as they are in the room.
-fn put_four(a: usize, b: usize, c: usize, d: usize, room: &mut [u32], n: usize) -> usize
-    requires a_bound { (a ≤ 8192) × ((b ≤ 8192) × ((c ≤ 8192) × (d ≤ 8192))) }
-    requires fits { n + 4 ≤ length room.old }
-    ensures { Put (four a b c d) n room.old result room.new }
-{
-    room[n] = (a + HEADER_NUMBERS) as u32;
-    room[n + 1] = (b + HEADER_NUMBERS) as u32;
-    room[n + 2] = (c + HEADER_NUMBERS) as u32;
-    room[n + 3] = (d + HEADER_NUMBERS) as u32;
-    n + 4
+// The words of a table, which are not too many, and where its sections start.
+#[derive(Clone, Copy)]
+pub(crate) struct Table<'a> {
+    pub(crate) words: &'a [u32],
+    pub(crate) sections: Sections,
+    ghost found: { layout_of words.now ≡ Ok sections },
+    ghost limit: { length words.now ≤ 8192 },
 }
 
-// The word count, and the places in the room of the sections' counts.
-fn put_header(words: &[u32], s: Sections, room: &mut [u32]) -> usize
-    requires found { layout_of words.now ≡ Found s }
-    requires limit { length words.now ≤ 8192 }
-    requires fits { HEADER-NUMBERS ≤ length room.old }
-    ensures { Put (header words.now s) 0 room.old result room.new }
-{
-    room[WORD_COUNT] = words.len() as u32;
-    let n = put_four(s.modes, s.states, s.runs, s.ascii, room, MODES_START);
-    put_four(s.wide, s.accepts, s.escapes, s.continuations, room, n)
-}
+impl Table<'_> {
+    // All of it, over the front of the room.
+    pub(crate) fn put(&self, room: &mut [u32]) -> usize
+        requires { 16384 ≤ length room.old }
+        ensures { Put (numbers self.now.words.now self.now.sections) 0 room.old result room.new }
+    {
+        let n = self.put_header(room);
+        let m = self.put_words(room, n);
+        self.put_record_places(room, m)
+    }
 
-// The words from the escape rows on, from place `n` on.
-fn put_later_words(words: &[u32], s: Sections, room: &mut [u32], n: usize) -> usize
-    requires found { layout_of words.now ≡ Found s }
-    requires fits { n + length (later_made words.now s) ≤ length room.old }
-    ensures { Put (later_made words.now s) n room.old result room.new }
-{
-    let m = renew::copy_words(words, s.escapes, s.continuations - s.escapes, room, n);
-    renew::renew_continuations(words, s.continuations, room, m)
-}
+    // The word count, and the places in the room of the sections' counts.
+    #[tactic(auto, using(crate::proofs::Tables::heading))]
+    fn put_header(&self, room: &mut [u32]) -> usize
+        requires { HEADER-NUMBERS ≤ length room.old }
+        ensures { Put (header self.now.words.now self.now.sections) 0 room.old result room.new }
+    {
+        let s = self.sections;
+        room[WORD_COUNT] = self.words.len() as u32;
+        let counts = [
+            in_room(s.modes),
+            in_room(s.states),
+            in_room(s.runs),
+            in_room(s.ascii),
+            in_room(s.wide),
+            in_room(s.accepts),
+            in_room(s.escapes),
+            in_room(s.continuations),
+        ];
+        copy_words(&counts, room, MODES_START)
+    }
 
-// The words, from place `n` on: all but the flags as they are.
-fn put_words(words: &[u32], s: Sections, room: &mut [u32], n: usize) -> usize
-    requires found { layout_of words.now ≡ Found s }
-    requires fits { n + length (made words.now s) ≤ length room.old }
-    ensures { Put (made words.now s) n room.old result room.new }
-{
-    let a = renew::copy_words(words, 0, s.accepts, room, n);
-    let b = renew::renew_flagged(Flagged::Accept, words, s.accepts, room, a);
-    put_later_words(words, s, room, b)
-}
+    // The words: all but the flags as they are.
+    fn put_words(&self, room: &mut [u32], n: usize) -> usize
+        requires { n + length (made self.now.words.now self.now.sections) ≤ length room.old }
+        ensures { Put (made self.now.words.now self.now.sections) n room.old result room.new }
+    {
+        let accepts = self.sections.accepts;
+        let a = copy_words(&self.words[..accepts], room, n);
+        let b = renew::<Accept>(self.words, accepts, room, a);
+        self.put_later_words(room, b)
+    }
 
-// Where the accepts, the escape rows and the continuations start, from place `n` on.
-fn put_later_places(words: &[u32], s: Sections, room: &mut [u32], n: usize) -> usize
-    requires found { layout_of words.now ≡ Found s }
-    requires limit { length words.now ≤ 8192 }
-    requires fits { n + length (later_places words.now s) ≤ length room.old }
-    ensures { Put (later_places words.now s) n room.old result room.new }
-{
-    let a = places::put_record_places(Kind::Accept, words, s.accepts, room, n);
-    let b = places::put_record_places(Kind::EscapeRow, words, s.escapes, room, a);
-    places::put_record_places(Kind::Continuation, words, s.continuations, room, b)
-}
+    // The words from the escape rows on.
+    fn put_later_words(&self, room: &mut [u32], n: usize) -> usize
+        requires { n + length (later_made self.now.words.now self.now.sections) ≤ length room.old }
+        ensures { Put (later_made self.now.words.now self.now.sections) n room.old result room.new }
+    {
+        let s = self.sections;
+        let a = copy_words(&self.words[s.escapes..s.continuations], room, n);
+        renew::<Continuation>(self.words, s.continuations, room, a)
+    }
 
-// Where all records of variable length start, from place `n` on.
-fn put_places(words: &[u32], s: Sections, room: &mut [u32], n: usize) -> usize
-    requires found { layout_of words.now ≡ Found s }
-    requires limit { length words.now ≤ 8192 }
-    requires fits { n + length (places words.now s) ≤ length room.old }
-    ensures { Put (places words.now s) n room.old result room.new }
-{
-    let a = places::put_record_places(Kind::AsciiRun, words, s.runs, room, n);
-    let b = places::put_record_places(Kind::WideRow, words, s.wide, room, a);
-    put_later_places(words, s, room, b)
-}
+    // Where all records of variable length start.
+    fn put_record_places(&self, room: &mut [u32], n: usize) -> usize
+        requires { n + length (places self.now.words.now self.now.sections) ≤ length room.old }
+        ensures { Put (places self.now.words.now self.now.sections) n room.old result room.new }
+    {
+        let s = self.sections;
+        let a = put_record_places(Kind::AsciiRun, self.words, s.runs, room, n);
+        let b = put_record_places(Kind::WideRow, self.words, s.wide, room, a);
+        self.put_later_places(room, b)
+    }
 
-// All of it, over the front of the room.
-pub(crate) fn put_table(words: &[u32], s: Sections, room: &mut [u32]) -> usize
-    requires found { layout_of words.now ≡ Found s }
-    requires limit { length words.now ≤ 8192 }
-    requires fits { 16384 ≤ length room.old }
-    ensures { Put (numbers words.now s) 0 room.old result room.new }
-{
-    let n = put_header(words, s, room);
-    let m = put_words(words, s, room, n);
-    put_places(words, s, room, m)
+    // Where the accepts, the escape rows and the continuations start.
+    fn put_later_places(&self, room: &mut [u32], n: usize) -> usize
+        requires { n + length (later_places self.now.words.now self.now.sections) ≤ length room.old }
+        ensures { Put (later_places self.now.words.now self.now.sections) n room.old result room.new }
+    {
+        let s = self.sections;
+        let a = put_record_places(Kind::Accept, self.words, s.accepts, room, n);
+        let b = put_record_places(Kind::EscapeRow, self.words, s.escapes, room, a);
+        put_record_places(Kind::Continuation, self.words, s.continuations, room, b)
+    }
 }

@@ -1,47 +1,20 @@
 use Rattle.room_fill.proofs.Writing.{placing}
 use Rattle.room_fill.proofs.places.put_record_places.Goals as goal
 
-pub overflow_add-here : goal.overflow_add-here
-overflow_add-here c = search placing
+pub loop-i-init : goal.loop-i-init
+loop-i-init c = search placing
 
-pub offset_bounds-words-at : goal.offset_bounds-words-at
-offset_bounds-words-at c = search placing
+pub in_room-requires : goal.in_room-requires
+in_room-requires c = search placing
 
-pub bounds-words-at : goal.bounds-words-at
-bounds-words-at c = search placing
+pub bounds-room-m : goal.bounds-room-m
+bounds-room-m c = search placing
 
-pub loop-left-init : goal.loop-left-init
-loop-left-init c = search placing
-
-pub read_record-requires : goal.read_record-requires
-read_record-requires c = search placing
-
-pub enum_known-p : goal.enum_known-p
-enum_known-p c = search placing
-
-pub put_place-m-requires : goal.put_place-m-requires
-put_place-m-requires c = search placing
-
-pub overflow_sub-left : goal.overflow_sub-left
-overflow_sub-left c = search placing
-
-pub loop-left-smaller : goal.loop-left-smaller
-loop-left-smaller c = search placing
-
-pub loop-left-preserved : goal.loop-left-preserved
-loop-left-preserved c = search placing
-
-pub enum_told-1 : goal.enum_told-1
-enum_told-1 c = search placing
-
-pub shape_of-room-in-Refused : goal.shape_of-room-in-Refused
-shape_of-room-in-Refused c = search placing
-
-pub returns-in-Refused : goal.returns-in-Refused
-returns-in-Refused c = search placing
-
-pub shape_of-room : goal.shape_of-room
-shape_of-room c = search placing
+pub loop-i-preserved : goal.loop-i-preserved
+loop-i-preserved c = search placing
 
 pub returns : goal.returns
 returns c = search placing
+
+pub returns-in_default : goal.returns-in_default
+returns-in_default c = search placing

@@ -1,38 +1,5 @@
-use Rattle.room_fill.proofs.Writing.{copying}
+use Rattle.room_fill.proofs.Writing.{copied_put}
 use Rattle.room_fill.proofs.renew.copy_words.Goals as goal
 
-pub loop-left-init : goal.loop-left-init
-loop-left-init c = search copying
-
-pub offset_bounds-words-here : goal.offset_bounds-words-here
-offset_bounds-words-here c = search copying
-
-pub bounds-words-here : goal.bounds-words-here
-bounds-words-here c = search copying
-
-pub offset_bounds-room-m : goal.offset_bounds-room-m
-offset_bounds-room-m c = search copying
-
-pub bounds-room-m : goal.bounds-room-m
-bounds-room-m c = search copying
-
-pub overflow_add-here : goal.overflow_add-here
-overflow_add-here c = search copying
-
-pub overflow_sub-left : goal.overflow_sub-left
-overflow_sub-left c = search copying
-
-pub overflow_add-m : goal.overflow_add-m
-overflow_add-m c = search copying
-
-pub loop-left-smaller : goal.loop-left-smaller
-loop-left-smaller c = search copying
-
-pub loop-left-preserved : goal.loop-left-preserved
-loop-left-preserved c = search copying
-
-pub shape_of-room : goal.shape_of-room
-shape_of-room c = search copying
-
 pub returns : goal.returns
-returns c = search copying
+returns c = copied_put _ _ _ c.requires c.copy_from_slice.ensures.after
