@@ -5,8 +5,6 @@
 //     ./run plyscan < crates/plyscan/stdin
 #![tactic(auto)]
 
-ghost use Rattle.std.specs.Prelude.{◌≤◌, length};
-
 use lexer_dfa::{Answered, AsciiRunScan, Refusal, Run, RunWords, Scanned};
 use replay_io::input::read_full;
 use std::io::{Result, Stdin, Stdout};
@@ -20,90 +18,56 @@ const START: u16 = 0;
 // Where each ASCII symbol leads from the state that reads a number.
 fn number_row() -> [u16; 128] {
     let mut row = [START; 128];
-    for digit in b'0'..=b'9' {
-        row[digit as usize] = NUMBER;
-    }
+    row[usize::from(b'0')..=usize::from(b'9')].fill(NUMBER);
     row
 }
 
-fn print(out: Stdout, text: &[u8]) -> Result<()> {
-    out.write_all(text)
-}
-
-fn print_number(out: Stdout, n: u64) -> Result<()> {
-    print!(out; "{n}")
-}
-
 fn print_words(out: Stdout, words: RunWords) -> Result<()> {
-    print(out, b"run ")?;
-    print_number(out, words.first as u64)?;
+    let RunWords {
+        first,
+        second,
+        third,
+        ..
+    } = words;
     if words.length == 3 {
-        print(out, b" ")?;
-        print_number(out, words.second as u64)?;
-        print(out, b" ")?;
-        print_number(out, words.third as u64)?;
+        return println!(out; "run {first} {second} {third}");
     }
-    print(out, b"\n")
+    println!(out; "run {first}")
 }
 
 fn print_refusal(out: Stdout, refusal: Refusal) -> Result<()> {
-    print(out, b"refused ")?;
-    print_number(out, refusal.number as u64)?;
-    print(out, b" at ")?;
-    print_number(out, refusal.place as u64)?;
-    print(out, b"\n")
+    println!(out; "refused {} at {}", refusal.number, refusal.place)
 }
 
 // How far a run went, and how it ended.
 fn print_scan(out: Stdout, scan: AsciiRunScan) -> Result<()> {
-    print(out, b" (")?;
-    print_number(out, scan.bytes as u64)?;
-    if scan.bytes == 1 {
-        print(out, b" byte, ")?;
+    let bytes = scan.bytes;
+    let many = if bytes == 1 { "byte" } else { "bytes" };
+    let ended = if scan.found_exit {
+        "then an exit"
     } else {
-        print(out, b" bytes, ")?;
-    }
-    if scan.found_exit {
-        print(out, b"then an exit)\n")
-    } else {
-        print(out, b"to the end)\n")
-    }
+        "to the end"
+    };
+    println!(out; " ({bytes} {many}, {ended})")
 }
 
 fn scan_line(out: Stdout, run: Run, line: &[u8]) -> Result<()> {
     match lexer_dfa::scan_length(run, line) {
-        Scanned::NoRun => print(out, b"no run\n"),
+        Scanned::NoRun => println!(out; "no run"),
         Scanned::Skipped(scan) => {
             if scan.bytes == 0 {
-                return print(out, b"no digits\n");
+                return println!(out; "no digits");
             }
-            print(out, lexer_dfa::scan(run, line))?;
+            out.write_all(lexer_dfa::scan(run, line))?;
             print_scan(out, scan)
         }
     }
 }
 
-// How many bytes stand before the first newline.
-fn line_length(text: &[u8]) -> usize
-    ensures { result ≤ length text.now }
-{
-    let mut i = 0;
-    while i < text.len() {
-        if text[i] == b'\n' {
-            return i;
-        }
-        i += 1;
-    }
-    i
-}
-
-// Each line by itself, so that a run ends where its line does. The last line may lack its newline.
+// Each line by itself, so that a run ends where its line does. The last line may lack its newline; behind that of the last line stands none.
 fn scan_lines(out: Stdout, run: Run, text: &[u8]) -> Result<()> {
-    let mut start = 0;
-    while start < text.len() {
-        let end = start + line_length(&text[start..]);
-        scan_line(out, run, &text[start..end])?;
-        start = end + 1;
+    for line in text.split_inclusive(|byte| *byte == b'\n') {
+        scan_line(out, run, line.strip_suffix(b"\n").unwrap_or(line))?;
     }
     Ok(())
 }
@@ -136,10 +100,7 @@ fn main(rt: HostRuntime) -> Result<()> {
     scan_list(out, &list[..n])?;
     // A list that is cut may be cut inside a number, so this is said.
     if goes_on(&mut from)? {
-        return print(
-            out,
-            b"the list is too long, and was cut after 65536 bytes\n",
-        );
+        return println!(out; "the list is too long, and was cut after 65536 bytes");
     }
     Ok(())
 }

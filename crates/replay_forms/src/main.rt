@@ -18,14 +18,6 @@ use word_serialized::Opening;
 
 const RECORD: usize = 46;
 
-// Two numbers, and what stands behind each. Each program has its own: no contract can say what is written, and no public function goes without one.
-fn print(out: Stdout, first: usize, behind: &[u8], second: usize, end: &[u8]) -> Result<()> {
-    print!(out; "{first}")?;
-    out.write_all(behind)?;
-    print!(out; "{second}")?;
-    out.write_all(end)
-}
-
 // The row is a local that is lent as a slice.
 fn target_in(row: [WideRange; 4], symbol: u32) -> u16
     ensures { result ≡ target_in row symbol }
@@ -50,44 +42,26 @@ fn row_at(s: &[u8]) -> [WideRange; 4] {
     ]
 }
 
-// 1 where our answer is not the recorded one.
-fn differs(record: &[u8]) -> usize {
-    if target_in(row_at(record), read::word(record, 40)) == read::half(record, 44) {
-        return 0;
-    }
-    1
-}
-
-// How many of the whole records differ.
-fn replay(sample: &[u8]) -> usize {
-    let mut differ: usize = 0;
-    let mut at: usize = 0;
-    while at < sample.len() {
-        let rest = &sample[at..];
-        if rest.len() < RECORD {
-            return differ;
-        }
-        differ = std::num::wrapping_add_usize(differ, differs(rest));
-        at += RECORD;
-    }
-    differ
+// Whether our answer is not the recorded one.
+fn differs(record: &[u8]) -> bool {
+    target_in(row_at(record), read::word(record, 40)) != read::half(record, 44)
 }
 
 fn report(out: Stdout, sample: &[u8]) -> Result<()> {
-    let n = sample.len();
-    print(out, n % RECORD, b" left over of ", n, b" bytes\n")?;
-    print(
-        out,
-        n / RECORD,
-        b" answers, ",
-        replay(sample),
-        b" differ: wide_target\n",
-    )
+    let bytes = sample.len();
+    let left = bytes % RECORD;
+    let answers = bytes / RECORD;
+    let differ = sample
+        .chunks_exact(RECORD)
+        .filter(|record| differs(record))
+        .count();
+    println!(out; "{left} left over of {bytes} bytes")?;
+    println!(out; "{answers} answers, {differ} differ: wide_target")
 }
 
 fn print_target(out: Stdout, row: [WideRange; 4], symbol: u32) -> Result<()> {
     let target = target_in(row, symbol);
-    print(out, symbol as usize, b" leads to ", target as usize, b"\n")
+    println!(out; "{symbol} leads to {target}")
 }
 
 // The first range whose high reaches 250 starts past it, though a later one holds it.
@@ -123,8 +97,8 @@ fn print_falling(out: Stdout) -> Result<()> {
 // The refusal, 0 for none, and then the modes or the place.
 fn print_opening(out: Stdout, words: &[u32]) -> Result<()> {
     match word_serialized::read_opening(words) {
-        Opening::Modes(n) => print(out, 0, b" refuses: modes ", n as usize, b"\n"),
-        Opening::Refused(r) => print(out, r.number as usize, b" refuses: at ", r.place, b"\n"),
+        Opening::Modes(n) => println!(out; "0 refuses: modes {n}"),
+        Opening::Refused(r) => println!(out; "{} refuses: at {}", r.number, r.place),
     }
 }
 

@@ -1,9 +1,8 @@
 -- The law of a loop that puts numbers of k bytes at the front of a buffer: n of them, of which i stand. Assumes nothing.
-use Rattle.std.proofs.Common.{◌≡◌, ℕ, zero, suc, ◌+◌, ◌-◌, ◌*◌, ◌<◌, ◌≤◌, List, ◌∷◌, length, drop, set, refl, arith, drop-drop, rules}
+use Rattle.std.proofs.Common.{◌≡◌, ℕ, zero, suc, ◌+◌, ◌-◌, ◌*◌, ◌<◌, ◌≤◌, List, ◌∷◌, length, drop, set, refl, subst, arith, drop-drop, rules}
 use Rattle.buffer.specs.Over.{Put}
 use Rattle.buffer.proofs.Going.{Going, going_start, going_done, going_place, going_put}
 use Rattle.replay_io.specs.Bytes.{number, numbers}
-use Rattle.replay_io.proofs.Reading.{part-many}
 
 -- there are n of them
 pub numbers-many : (k n : ℕ) (s : List ℕ) → length (numbers k n s) ≡ n
@@ -39,12 +38,15 @@ module _ (k n : ℕ) (s : List ℕ) {old : List ℕ} where
         Going (numbers k n s) 0 old (left k n s (i + 1)) (i + 1) (set out i x)
     put_turn e h g = rw e (going_put (numbers k n s) 0 old (left k n s (i + 1)) i out (number k (drop (k * i) s)) (rw (left_open k n s i h) at g))
 
-    pub put_done : {m : ℕ} → n ≡ m → n ≤ i → Going (numbers k n s) 0 old (left k n s i) i out → Put (numbers k m s) 0 old i out
+    pub put_done : {m : ℕ} → n ≡ m → n ≤ i → i ≤ n → Going (numbers k n s) 0 old (left k n s i) i out → Put (numbers k m s) 0 old n out
     unfolding left numbers
-    put_done e h g = let z : n - i ≡ 0 = omega arith in rw (← e) (going_done (numbers k n s) 0 old (rw z at g))
+    put_done {m} e h h' g =
+        let z : n - i ≡ 0 = omega arith in
+        let a : i ≡ n = omega arith in
+        subst (λ r. Put (numbers k m s) 0 old r out) a (rw (← e) (going_done (numbers k n s) 0 old (rw z at g)))
 
     pub put_within : Going (numbers k n s) 0 old (left k n s i) i out → i ≤ length out
     put_within g = omega (arith, g.next, g.size, g.room)
 
 -- what the loop is left with
-pub ruleset putting = (rules, put_start, put_place, put_turn, put_done, put_within, part-many)
+pub ruleset putting = (rules, put_start, put_place, put_turn, put_done, put_within)

@@ -8,6 +8,11 @@ unfoldable pub number : ℕ → List ℕ → ℕ
 number zero s = 0
 number (suc k) s = slice_index s 0 + 256 * number k (drop 1 s)
 
+-- the first k bytes, and a 0 for each that is not there
+unfoldable pub padded : ℕ → List ℕ → List ℕ
+padded zero s = []
+padded (suc k) s = slice_index s 0 ∷ padded k (drop 1 s)
+
 -- n numbers of k bytes, one behind the other
 unfoldable pub numbers : ℕ → ℕ → List ℕ → List ℕ
 numbers k zero s = []

@@ -1,6 +1,6 @@
 // A check over all numbers of a buffer: the sum of the sums after each, in 64 bits, which tells numbers in another order apart.
-ghost use Rattle.std.specs.Prelude.{◌≡◌, ◌%◌};
-ghost use Rattle.replay_io.specs.Check.{with, summed, none};
+ghost use Rattle.std.specs.Prelude.{◌≡◌, ◌%◌, ℕ};
+ghost use Rattle.replay_io.specs.Check.{with, summed, summed_by, none};
 
 #[derive(Clone, Copy)]
 pub struct Sums {
@@ -10,68 +10,58 @@ pub struct Sums {
 
 pub const NONE: Sums = Sums { sum: 0, sums: 0 };
 
+// A number that can be summed, which is one of at most 64 bits. (`Into<u64>` would not do: it does not say that it gives one number only.)
+pub trait Number: Copy {
+    ghost value: { Self → ℕ };
+
+    fn wide(self) -> u64
+        ensures { result ≡ value self };
+}
+
+impl Number for u16 {
+    ghost value = { λ x. x };
+
+    fn wide(self) -> u64 {
+        u64::from(self)
+    }
+}
+
+impl Number for u32 {
+    ghost value = { λ x. x };
+
+    fn wide(self) -> u64 {
+        u64::from(self)
+    }
+}
+
+impl Number for u64 {
+    ghost value = { λ x. x };
+
+    fn wide(self) -> u64 {
+        self
+    }
+}
+
 fn with(before: Sums, x: u64) -> Sums
     ensures { result ≡ with before x }
 {
-    let sum = std::num::wrapping_add_u64(before.sum, x);
+    let sum = before.sum.wrapping_add(x);
     Sums {
         sum,
-        sums: std::num::wrapping_add_u64(before.sums, sum),
+        sums: before.sums.wrapping_add(sum),
     }
 }
 
-fn of_half(x: u16) -> u64
-    ensures { result ≡ x }
+pub fn of<T: Number>(before: Sums, out: &[T]) -> Sums
+    ensures { result ≡ summed_by T.value before out.now }
 {
-    x as u64
-}
-
-fn of_word(x: u32) -> u64
-    ensures { result ≡ x }
-{
-    x as u64
-}
-
-pub fn of_halves(before: Sums, out: &[u16]) -> Sums
-    ensures { result ≡ summed before out.now }
-{
-    let mut sums = before;
-    let mut i = 0;
-    while i < out.len() {
-        sums = with(sums, of_half(out[i]));
-        i += 1;
-    }
-    sums
-}
-
-pub fn of_words(before: Sums, out: &[u32]) -> Sums
-    ensures { result ≡ summed before out.now }
-{
-    let mut sums = before;
-    let mut i = 0;
-    while i < out.len() {
-        sums = with(sums, of_word(out[i]));
-        i += 1;
-    }
-    sums
-}
-
-pub fn of_masks(before: Sums, out: &[u64]) -> Sums
-    ensures { result ≡ summed before out.now }
-{
-    let mut sums = before;
-    let mut i = 0;
-    while i < out.len() {
-        sums = with(sums, out[i]);
-        i += 1;
-    }
-    sums
+    out.iter().fold(before, |sums, x| with(sums, x.wide()))
 }
 
 // The check in 32 bits.
 pub fn short(out: &[u32]) -> u32
     ensures { result ≡ (summed none out.now).sums % 4294967296 }
 {
-    let sums = of_words(NONE, out).sums;
+    let sums = of(NONE, out).sums;
     (sums % 4294967296) as u32
 }

@@ -1,28 +1,20 @@
 // Reads what stands in a slice from a place on, numbers with the least byte first. Past its end every byte is 0, so that no reader asks anything of its
 // caller; whether a record is whole is seen from how many bytes it has.
-ghost use Rattle.std.specs.Prelude.{◌≡◌, ◌+◌, ◌*◌, ◌<◌, ◌≤◌, min, drop, slice_index};
+ghost use Rattle.std.specs.Prelude.{◌≡◌, ◌<◌, drop, slice_index};
 ghost use Rattle.io.specs.Counts.{IsPrefixLen};
-ghost use Rattle.replay_io.specs.Bytes.{number, After, Part, PutWhole};
+ghost use Rattle.replay_io.specs.Bytes.{number, padded, After, Part, PutWhole};
 
 pub fn byte(s: &[u8], at: usize) -> u8
     ensures { result ≡ slice_index s.now at }
 {
-    if at < s.len() { s[at] } else { 0 }
-}
-
-fn least(a: usize, b: usize) -> usize
-    ensures upper_bound { (result ≤ a) × (result ≤ b) }
-    ensures value { result ≡ min a b }
-{
-    if a < b { a } else { b }
+    s.get(at).copied().unwrap_or(0)
 }
 
 // What stands after the first n bytes.
 pub fn after(s: &[u8], n: usize) -> &[u8]
     ensures { After s.entry n result }
 {
-    let from = least(n, s.len());
-    &s[from..]
+    &s[n.min(s.len())..]
 }
 
 // The n bytes from a place on, or all of them where there are fewer.
@@ -30,50 +22,38 @@ pub fn part(s: &[u8], at: usize, n: usize) -> &[u8]
     ensures { Part s.entry at n result }
 {
     let rest = after(s, at);
-    let end = least(n, rest.len());
-    &rest[..end]
+    &rest[..n.min(rest.len())]
 }
 
-fn half_of(low: u8, high: u8) -> u16
-    ensures { result ≡ low + 256 * high }
+// The N bytes from a place on.
+fn front<const N: usize>(s: &[u8], at: usize) -> [u8; N]
+    ensures { result ≡ padded N (drop at s.now) }
 {
-    low as u16 + 256 * (high as u16)
-}
-
-fn word_of(low: u16, high: u16) -> u32
-    ensures { result ≡ low + 65536 * high }
-{
-    low as u32 + 65536 * (high as u32)
-}
-
-fn long_of(low: u32, high: u32) -> u64
-    ensures { result ≡ low + 4294967296 * high }
-{
-    low as u64 + 4294967296 * (high as u64)
+    let mut bytes = [0; N];
+    let there = part(s, at, N);
+    bytes[..there.len()].copy_from_slice(there);
+    bytes
 }
 
 // A number of two bytes.
 pub fn half(s: &[u8], at: usize) -> u16
     ensures { result ≡ number 2 (drop at s.now) }
 {
-    let rest = after(s, at);
-    half_of(byte(rest, 0), byte(rest, 1))
+    u16::from_le_bytes(front(s, at))
 }
 
 // A number of four bytes.
 pub fn word(s: &[u8], at: usize) -> u32
     ensures { result ≡ number 4 (drop at s.now) }
 {
-    let rest = after(s, at);
-    word_of(half(rest, 0), half(rest, 2))
+    u32::from_le_bytes(front(s, at))
 }
 
 // A number of eight bytes.
 pub fn long(s: &[u8], at: usize) -> u64
     ensures { result ≡ number 8 (drop at s.now) }
 {
-    let rest = after(s, at);
-    long_of(word(rest, 0), word(rest, 4))
+    u64::from_le_bytes(front(s, at))
 }
 
 // A byte that says how many.
@@ -81,7 +61,7 @@ pub fn small(s: &[u8], at: usize) -> usize
     ensures upper_bound { result < 256 }
     ensures value { result ≡ slice_index s.now at }
 {
-    byte(s, at) as usize
+    usize::from(byte(s, at))
 }
 
 // A half that says how many.
@@ -89,7 +69,7 @@ pub fn size(s: &[u8], at: usize) -> usize
     ensures upper_bound { result < 65536 }
     ensures value { result ≡ number 2 (drop at s.now) }
 {
-    half(s, at) as usize
+    usize::from(half(s, at))
 }
 
 // Puts the whole halves of the bytes at the front of `out`, as many as there is place for, and answers how many these are.
@@ -97,13 +77,11 @@ pub fn put_halves(bytes: &[u8], out: &mut [u16]) -> usize
     ensures prefix_len { IsPrefixLen result out.new }
     ensures put_whole { PutWhole 2 bytes.now out.old result out.new }
 {
-    let n = least(bytes.len() / 2, out.len());
-    let mut i = 0;
-    while i < n {
+    let n = (bytes.len() / 2).min(out.len());
+    for i in 0..n {
         out[i] = half(bytes, 2 * i);
-        i += 1;
     }
-    i
+    n
 }
 
 // The same of words.
@@ -111,11 +89,9 @@ pub fn put_words(bytes: &[u8], out: &mut [u32]) -> usize
     ensures prefix_len { IsPrefixLen result out.new }
     ensures put_whole { PutWhole 4 bytes.now out.old result out.new }
 {
-    let n = least(bytes.len() / 4, out.len());
-    let mut i = 0;
-    while i < n {
+    let n = (bytes.len() / 4).min(out.len());
+    for i in 0..n {
         out[i] = word(bytes, 4 * i);
-        i += 1;
     }
-    i
+    n
 }

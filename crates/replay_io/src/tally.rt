@@ -1,9 +1,9 @@
-// Counts the answers of each kind that are equal and those that differ. The kinds are numbers from 1 on: how many answers of kind
-// k are equal stands at place 2 k of the counts, and how many differ behind it.
-ghost use Rattle.std.specs.Prelude.{◌≡◌, ◌≤◌, length, slice_index};
-ghost use Rattle.replay_io.specs.Tally.{place_of, counted, taken, one_more};
+// Counts the answers of each kind that are equal and those that differ. The kinds are numbers from 1 on, and the counts of kind k stand at place k.
+ghost use Rattle.std.specs.Prelude.{◌≡◌, IfSome, ◌<◌, ◌≤◌, length};
+ghost use Rattle.replay_io.specs.Tally.{counted, added, taken, one_more};
 
 use crate::read;
+use std::fmt;
 
 // What came of a record: how many bytes it has behind its first, and whether our answer is the recorded one.
 #[derive(Clone, Copy)]
@@ -12,55 +12,82 @@ pub struct Replayed {
     pub same: bool,
 }
 
-// A record of no kind is longer than any sample.
-pub const UNKNOWN: Replayed = Replayed {
-    more: 65536,
-    same: false,
+// How many answers of a kind are equal, and how many differ.
+#[derive(Clone, Copy)]
+pub struct Counts {
+    pub equal: usize,
+    pub differ: usize,
+}
+
+pub const NONE: Counts = Counts {
+    equal: 0,
+    differ: 0,
 };
 
-fn place_of(kind: u8, same: bool) -> usize
-    ensures { result ≡ place_of kind same }
-{
-    let first = 2 * (kind as usize);
-    if same { first } else { first + 1 }
+impl fmt::Display for Counts {
+    fn fmt<W: fmt::Write>(&self, f: &mut fmt::Formatter<W>) -> fmt::Result {
+        let Counts { equal, differ } = *self;
+        write!(f, "{equal} equal, {differ} differ")
+    }
+}
+
+// What a program prints: how far it came, and then for each kind, from the first on, its counts and its name.
+#[derive(Clone, Copy)]
+pub struct Report<'a> {
+    pub at: usize,
+    pub bytes: usize,
+    pub counts: &'a [Counts],
+    pub names: &'a [&'a str],
+}
+
+impl fmt::Display for Report<'_> {
+    fn fmt<W: fmt::Write>(&self, f: &mut fmt::Formatter<W>) -> fmt::Result {
+        let Report { at, bytes, .. } = *self;
+        writeln!(f, "{at} of {bytes} bytes")?;
+        for (told, name) in self.counts.iter().zip(self.names) {
+            writeln!(f, "{told}: {name}")?;
+        }
+        Ok(())
+    }
 }
 
 // No count comes near its end, since every answer takes bytes of the sample; so nothing is asked to show that it fits.
-fn one_more(counts: &mut [usize], place: usize)
-    ensures { counts.new ≡ one_more counts.old place }
+fn one_more(before: Counts, same: bool) -> Counts
+    ensures { result ≡ one_more before same }
 {
-    if place < counts.len() {
-        counts[place] = std::num::wrapping_add_usize(counts[place], 1);
+    let Counts { equal, differ } = before;
+    if same {
+        return Counts {
+            equal: equal.wrapping_add(1),
+            differ,
+        };
+    }
+    Counts {
+        equal,
+        differ: differ.wrapping_add(1),
+    }
+}
+
+// A kind that has no place is not counted.
+fn add(counts: &mut [Counts], kind: usize, same: bool)
+    ensures { counts.new ≡ added counts.old kind same }
+{
+    // By `get_mut`, whose place is written through, the proof doesn't close.
+    if kind < counts.len() {
+        counts[kind] = one_more(counts[kind], same);
     }
 }
 
 // Counts the record at the front of what is left, and answers how many bytes it has: none where it is not whole, and then it is not counted.
-pub fn count(counts: &mut [usize], rest: &[u8], replayed: Replayed) -> usize
-    ensures upper_bound { result ≤ length rest.now }
+pub fn count(counts: &mut [Counts], rest: &[u8], replayed: Replayed) -> Option<usize>
+    ensures some { IfSome result (λ n. (0 < n) × (n ≤ length rest.now)) }
     ensures value { result ≡ taken replayed rest.now }
     ensures counts_after { counts.new ≡ counted replayed rest.now counts.old }
 {
-    let more = replayed.more;
+    let Replayed { more, same } = replayed;
     if rest.len() <= more {
-        return 0;
+        return None;
     }
-    one_more(counts, place_of(read::byte(rest, 0), replayed.same));
-    1 + more
-}
-
-fn count_at(counts: &[usize], place: usize) -> usize
-    ensures { result ≡ slice_index counts.now place }
-{
-    if place < counts.len() {
-        counts[place]
-    } else {
-        0
-    }
-}
-
-// How many answers of a kind are equal, or differ.
-pub fn told(counts: &[usize], kind: u8, same: bool) -> usize
-    ensures { result ≡ slice_index counts.now (place_of kind same) }
-{
-    count_at(counts, place_of(kind, same))
+    add(counts, read::small(rest, 0), same);
+    Some(1 + more)
 }

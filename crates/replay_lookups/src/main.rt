@@ -24,95 +24,87 @@
 mod lists;
 mod lookups;
 
+ghost use Rattle.std.specs.Prelude.{◌<◌, ◌≤◌, length, IfSome};
+
 use refusal::ROOM_NUMBERS;
-use replay_io::tally::Replayed;
+use replay_io::tally::{Counts, Replayed, Report};
 use replay_io::{input, read, tally};
 use room_decode::Decoded;
-use std::io::{Result, Stdout};
+use std::io::Result;
 
-// The record at the front of what is left. One of no kind is longer than any sample.
-fn replay_record(room: &[u32], rest: &[u8]) -> Replayed {
+const KINDS: [&str; 13] = [
+    "         mode_start",
+    "        state_count",
+    "             accept",
+    "       ascii_target",
+    "        char_target",
+    "         eof_target",
+    "  char_continuation",
+    "   eof_continuation",
+    "           coverage",
+    "     scan_ascii_run",
+    "compiled_mode_flags",
+    "  mode_state_counts",
+    "             encode",
+];
+
+// The record at the front of what is left, where there is one of its kind.
+fn replay_record(room: &[u32], rest: &[u8]) -> Option<Replayed> {
     let kind = read::byte(rest, 0);
     match kind {
-        1..=9 => lookups::replay_number(room, kind, rest),
-        10 => lookups::replay_scan(room, rest),
-        11..=13 => lists::replay_list(room, kind, rest),
-        _ => tally::UNKNOWN,
+        1..=9 => Some(lookups::replay_number(room, kind, rest)),
+        10 => Some(lookups::replay_scan(room, rest)),
+        11..=13 => Some(lists::replay_list(room, kind, rest)),
+        _ => None,
     }
 }
 
-// Counts every record, up to the first that cannot be read or is not whole, and answers the byte up to which it came.
-fn replay(room: &[u32], sample: &[u8], from: usize, counts: &mut [usize]) -> usize {
-    let mut at = from;
-    while at < sample.len() {
-        let rest = &sample[at..];
-        let bytes = tally::count(counts, rest, replay_record(room, rest));
-        if bytes == 0 {
-            return at;
-        }
+// Counts the record at the front of what is left, and answers how many bytes it has: none where it cannot be read or is not whole.
+fn count_record(room: &[u32], rest: &[u8], counts: &mut [Counts]) -> Option<usize>
+    ensures { IfSome result (λ n. (0 < n) × (n ≤ length rest.now)) }
+{
+    tally::count(counts, rest, replay_record(room, rest)?)
+}
+
+// Counts record after record, and answers how many bytes it came through. (Each program has its own: of one that takes `count_record` as a closure no
+// contract could say what it answers, and no public function goes without one.)
+fn replay(room: &[u32], records: &[u8], counts: &mut [Counts]) -> usize
+    ensures { result ≤ length records.now }
+{
+    let mut at = 0;
+    while let Some(bytes) = count_record(room, &records[at..], counts) {
         at += bytes;
     }
     at
 }
 
 // Replays what stands behind the table, where it is one.
-fn replay_table(sample: &[u8], counts: &mut [usize]) -> usize {
+fn replay_table(sample: &[u8], counts: &mut [Counts]) -> usize {
     let mut room = [0u32; ROOM_NUMBERS];
     let bytes = 4 * read::size(sample, 0);
     let table = program_io::read_table(read::part(sample, 2, bytes), &mut room);
     match table {
-        Decoded::Table { .. } => replay(&room, sample, 2 + bytes, counts),
+        Decoded::Table { .. } => {
+            2 + bytes + replay(&room, read::after(sample, 2 + bytes), counts)
+        }
         Decoded::Refused(_) => 0,
     }
-}
-
-// Two numbers, and what stands behind each. Each program has its own: no contract can say what is written, and no public function goes without one.
-fn print(out: Stdout, first: usize, behind: &[u8], second: usize, end: &[u8]) -> Result<()> {
-    print!(out; "{first}")?;
-    out.write_all(behind)?;
-    print!(out; "{second}")?;
-    out.write_all(end)
-}
-
-// The line of a kind, whose name ends the line.
-fn print_kind(out: Stdout, counts: &[usize], kind: u8, name: &[u8]) -> Result<()> {
-    let equal = tally::told(counts, kind, true);
-    let differ = tally::told(counts, kind, false);
-    print(out, equal, b" equal, ", differ, b" differ: ")?;
-    out.write_all(name)
-}
-
-// The name of each kind ends its line.
-fn print_kinds(out: Stdout, counts: &[usize]) -> Result<()> {
-    print_kind(out, counts, 1, b"         mode_start\n")?;
-    print_kind(out, counts, 2, b"        state_count\n")?;
-    print_kind(out, counts, 3, b"             accept\n")?;
-    print_kind(out, counts, 4, b"       ascii_target\n")?;
-    print_kind(out, counts, 5, b"        char_target\n")?;
-    print_kind(out, counts, 6, b"         eof_target\n")?;
-    print_kind(out, counts, 7, b"  char_continuation\n")?;
-    print_kind(out, counts, 8, b"   eof_continuation\n")?;
-    print_kind(out, counts, 9, b"           coverage\n")?;
-    print_kind(out, counts, 10, b"     scan_ascii_run\n")?;
-    print_kind(out, counts, 11, b"compiled_mode_flags\n")?;
-    print_kind(out, counts, 12, b"  mode_state_counts\n")?;
-    print_kind(out, counts, 13, b"             encode\n")
-}
-
-// Two counts for each kind, from 0 on.
-fn report(out: Stdout, sample: &[u8]) -> Result<()> {
-    let mut counts = [0usize; 28];
-    let at = replay_table(sample, &mut counts);
-    print(out, at, b" of ", sample.len(), b" bytes\n")?;
-    print_kinds(out, &counts)
 }
 
 // Of an input that fills the buffer there may be more: it is no sample, and nothing is printed.
 fn main(rt: HostRuntime) -> Result<()> {
     let mut sample = io::large_buffer();
-    let n = input::read_full(&mut rt.stdin(), &mut sample)?;
-    if n < 65536 {
-        return report(rt.stdout(), &sample[..n]);
+    let bytes = input::read_full(&mut rt.stdin(), &mut sample)?;
+    if bytes == 65536 {
+        return Ok(());
     }
-    Ok(())
+    let mut counts = [tally::NONE; KINDS.len() + 1];
+    let at = replay_table(&sample[..bytes], &mut counts);
+    let report = Report {
+        at,
+        bytes,
+        counts: &counts[1..],
+        names: &KINDS,
+    };
+    print!(rt; "{report}")
 }

@@ -20,7 +20,7 @@ pub(crate) fn replay_ascii(record: &[u8]) -> Replayed {
     read::put_halves(read::after(record, 3), &mut pool);
     read::put_halves(read::after(record, 771), &mut row);
     let answer = pool_ascii::intern_ascii(&mut pool, read::size(record, 1), &row);
-    let sums = check::of_halves(check::NONE, &pool).sums;
+    let sums = check::of(check::NONE, &pool).sums;
     Replayed {
         more: 1036,
         same: same(answer, sums, read::after(record, 1027)),
@@ -34,7 +34,7 @@ pub(crate) fn replay_wide(record: &[u8]) -> Replayed {
     read::put_words(read::after(record, 3), &mut pool);
     read::put_words(read::after(record, 131), &mut row);
     let answer = pool_wide::intern_wide(&mut pool, read::size(record, 1), &row);
-    let sums = check::of_words(check::NONE, &pool).sums;
+    let sums = check::of(check::NONE, &pool).sums;
     Replayed {
         more: 164,
         same: same(answer, sums, read::after(record, 155)),

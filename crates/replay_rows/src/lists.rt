@@ -17,7 +17,7 @@ fn same(first: usize, second: usize, sums: u64, recorded: &[u8]) -> bool {
 fn same_intervals(list: &[u8], recorded: &[u8]) -> bool {
     let mut out = [1u32; 2048];
     let answer = list_transitions::read_intervals(list, &mut out);
-    let sums = check::of_words(check::NONE, &out).sums;
+    let sums = check::of(check::NONE, &out).sums;
     match answer {
         Transitions::Read { count, intervals } => same(count, intervals, sums, recorded),
         Transitions::Refused(_) => false,
@@ -27,7 +27,7 @@ fn same_intervals(list: &[u8], recorded: &[u8]) -> bool {
 fn same_segments(list: &[u8], recorded: &[u8]) -> bool {
     let mut out = [1u32; 4096];
     let answer = list_segments::char_segments(list, &mut out);
-    let sums = check::of_words(check::NONE, &out).sums;
+    let sums = check::of(check::NONE, &out).sums;
     match answer {
         Segments::Count(n) => same(n, 0, sums, recorded),
         Segments::Refused(_) => false,
@@ -37,12 +37,7 @@ fn same_segments(list: &[u8], recorded: &[u8]) -> bool {
 fn same_masks(answer: Masks, out: &[u64], recorded: &[u8]) -> bool {
     match answer {
         Masks::Count { masks, words } => {
-            same(
-                masks,
-                words,
-                check::of_masks(check::NONE, out).sums,
-                recorded,
-            )
+            same(masks, words, check::of(check::NONE, out).sums, recorded)
         }
         Masks::Refused(_) => false,
     }
@@ -64,8 +59,8 @@ fn same_distinct(list: &[u8], recorded: &[u8]) -> bool {
 }
 
 fn same_built(rows: Rows, ascii: &[u16], wide: &[u32], escape: &[u32], recorded: &[u8]) -> bool {
-    let sums = check::of_words(check::of_halves(check::NONE, ascii), wide);
-    let sums = check::of_words(sums, escape).sums;
+    let sums = check::of(check::of(check::NONE, ascii), wide);
+    let sums = check::of(sums, escape).sums;
     match rows {
         Rows::Built { wide, escape } => same(wide, escape, sums, recorded),
         Rows::Refused(_) => false,

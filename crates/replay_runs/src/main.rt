@@ -17,74 +17,56 @@
 mod decode;
 mod runs;
 
-use replay_io::tally::Replayed;
-use replay_io::{input, read, tally};
-use std::io::{Result, Stdout};
+ghost use Rattle.std.specs.Prelude.{◌<◌, ◌≤◌, length, IfSome};
 
-// The record at the front of what is left. One of no kind is longer than any sample. A new kind gets an arm here, a line in `print_kinds` and two
-// counts in `report`.
-fn replay_record(rest: &[u8]) -> Replayed {
+use replay_io::tally::{Counts, Replayed, Report};
+use replay_io::{input, read, tally};
+use std::io::Result;
+
+const KINDS: [&str; 4] = ["classify", "   class", "    scan", "  decode"];
+
+// The record at the front of what is left, where there is one of its kind. A new kind gets an arm here and a name in KINDS.
+fn replay_record(rest: &[u8]) -> Option<Replayed> {
     match read::byte(rest, 0) {
-        1 => runs::replay_classify(rest),
-        2 => runs::replay_class(rest),
-        3 => runs::replay_scan(rest),
-        4 => decode::replay_decode(rest),
-        _ => tally::UNKNOWN,
+        1 => Some(runs::replay_classify(rest)),
+        2 => Some(runs::replay_class(rest)),
+        3 => Some(runs::replay_scan(rest)),
+        4 => Some(decode::replay_decode(rest)),
+        _ => None,
     }
 }
 
-// Counts every record, up to the first that cannot be read or is not whole, and answers the byte up to which it came.
-fn replay(sample: &[u8], counts: &mut [usize]) -> usize {
+// Counts the record at the front of what is left, and answers how many bytes it has: none where it cannot be read or is not whole.
+fn count_record(rest: &[u8], counts: &mut [Counts]) -> Option<usize>
+    ensures { IfSome result (λ n. (0 < n) × (n ≤ length rest.now)) }
+{
+    tally::count(counts, rest, replay_record(rest)?)
+}
+
+// Counts record after record, and answers the byte up to which it came. (Each program has its own: of one that takes `count_record` as a closure no contract
+// could say what it answers, and no public function goes without one.)
+fn replay(sample: &[u8], counts: &mut [Counts]) -> usize {
     let mut at = 0;
-    while at < sample.len() {
-        let rest = &sample[at..];
-        let bytes = tally::count(counts, rest, replay_record(rest));
-        if bytes == 0 {
-            return at;
-        }
+    while let Some(bytes) = count_record(&sample[at..], counts) {
         at += bytes;
     }
     at
 }
 
-// Two numbers, and what stands behind each. Each program has its own: no contract can say what is written, and no public function goes without one.
-fn print(out: Stdout, first: usize, behind: &[u8], second: usize, end: &[u8]) -> Result<()> {
-    print!(out; "{first}")?;
-    out.write_all(behind)?;
-    print!(out; "{second}")?;
-    out.write_all(end)
-}
-
-// The line of a kind, whose name ends the line.
-fn print_kind(out: Stdout, counts: &[usize], kind: u8, name: &[u8]) -> Result<()> {
-    let equal = tally::told(counts, kind, true);
-    let differ = tally::told(counts, kind, false);
-    print(out, equal, b" equal, ", differ, b" differ: ")?;
-    out.write_all(name)
-}
-
-// The name of each kind ends its line.
-fn print_kinds(out: Stdout, counts: &[usize]) -> Result<()> {
-    print_kind(out, counts, 1, b"classify\n")?;
-    print_kind(out, counts, 2, b"   class\n")?;
-    print_kind(out, counts, 3, b"    scan\n")?;
-    print_kind(out, counts, 4, b"  decode\n")
-}
-
-// Two counts for each kind, from 0 on.
-fn report(out: Stdout, sample: &[u8]) -> Result<()> {
-    let mut counts = [0usize; 10];
-    let at = replay(sample, &mut counts);
-    print(out, at, b" of ", sample.len(), b" bytes\n")?;
-    print_kinds(out, &counts)
-}
-
 // Of an input that fills the buffer there may be more: it is no sample, and nothing is printed.
 fn main(rt: HostRuntime) -> Result<()> {
     let mut sample = io::large_buffer();
-    let n = input::read_full(&mut rt.stdin(), &mut sample)?;
-    if n < 65536 {
-        return report(rt.stdout(), &sample[..n]);
+    let bytes = input::read_full(&mut rt.stdin(), &mut sample)?;
+    if bytes == 65536 {
+        return Ok(());
     }
-    Ok(())
+    let mut counts = [tally::NONE; KINDS.len() + 1];
+    let at = replay(&sample[..bytes], &mut counts);
+    let report = Report {
+        at,
+        bytes,
+        counts: &counts[1..],
+        names: &KINDS,
+    };
+    print!(rt; "{report}")
 }

@@ -14,11 +14,7 @@ fn target(bits: &[u8], k: usize, state: u16, other: u16) -> u16 {
 }
 
 fn row_of(bits: &[u8], state: u16, other: u16) -> [u16; 128] {
-    let mut row = [other; 128];
-    for k in 0..128 {
-        row[k] = target(bits, k, state, other);
-    }
-    row
+    std::array::from_fn(|k| target(bits, k, state, other))
 }
 
 fn same_words(ours: RunWords, n: usize, list: &[u8]) -> bool {

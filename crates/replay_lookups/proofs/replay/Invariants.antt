@@ -1,11 +1,9 @@
--- `replay_lookups::replay` is safe and ends: each whole record leaves fewer bytes. The counts keep their places. Assumes nothing.
-use Prim.Native.Nat.{◌-◌}
-use mathlib.Core.Path.{◌≡◌}
-use lib.ListN.{length}
+-- Each whole record leaves fewer bytes.
+use Rattle.std.proofs.Common.{◌-◌, ◌≤◌, length}
 use Rattle.replay_lookups.proofs.replay.Given as goal
 
-abbrev pub invariant-loop-at : goal.invariant-loop-at
-invariant-loop-at l = length l.counts ≡ length l.initial.counts
+abbrev pub invariant-loop-bytes : goal.invariant-loop-bytes
+invariant-loop-bytes l = l.at ≤ length l.records
 
-abbrev pub decreases-loop-at : goal.decreases-loop-at
-decreases-loop-at l = length l.sample - l.at
+abbrev pub decreases-loop-bytes : goal.decreases-loop-bytes
+decreases-loop-bytes l = length l.records - l.at

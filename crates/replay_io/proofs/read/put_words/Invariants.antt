@@ -1,5 +1,4 @@
 -- By the law of every loop that puts numbers.
-use Rattle.std.proofs.Common.{◌-◌}
 use Rattle.buffer.proofs.Going.{Going}
 use Rattle.replay_io.specs.Bytes.{numbers}
 use Rattle.replay_io.proofs.Putting.{left}
@@ -7,6 +6,3 @@ use Rattle.replay_io.proofs.read.put_words.Given as goal
 
 abbrev pub invariant-loop-i : goal.invariant-loop-i
 invariant-loop-i l = Going (numbers 4 l.n l.bytes) 0 l.initial.out (left 4 l.n l.bytes l.i) l.i l.out
-
-abbrev pub decreases-loop-i : goal.decreases-loop-i
-decreases-loop-i l = l.n - l.i
