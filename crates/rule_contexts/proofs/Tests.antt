@@ -1,14 +1,14 @@
 -- The tests of a context, of a config and of a continuation, by the words that were read. Assumes nothing.
 use Prim.Native.Nat.{ℕ, ◌+◌, ◌*◌, ◌≤◌}
 use native.Mathlib.Omega.{arith}
-use mathlib.Core.Path.{◌≡◌, sym, ◌∙◌}
+use mathlib.Core.Path.{◌≡◌, ◌∙◌}
 use mathlib.Core.List.{List}
 use mathlib.Core.Bool.{Bool, true, false, ◌&&◌, ◌||◌}
 use lib.ListN.{length, get_or}
 use lib.Dec.{ltb, leb, eqb}
 use borrow.Author.Rules.{rules}
 use Rattle.word_reader.specs.Records.{config_at}
-use Rattle.rule_words.specs.Rules.{passing, every, every_in, walk, refers_below, below, config_good, continuation_with, continuation_good}
+use Rattle.rule_words.specs.Rules.{every_in, walk, refers_below, below, config_good, continuation_with, continuation_good}
 use Rattle.rule_words.specs.Flags.{plain, config_plain, continuation_plain}
 use Rattle.rule_words.proofs.Laws.{past_end, section-passes, section_past}
 use Rattle.rule_contexts.specs.declared.Asked.{Asked}

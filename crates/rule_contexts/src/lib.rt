@@ -9,7 +9,6 @@ ghost use Rattle.rule_words.specs.Flags.{continuation_plain};
 ghost use Rattle.rule_contexts.specs.Asked.{config_passes};
 
 use rule_words::{plain, word_at, word_past};
-use word_reader::Place;
 
 // A word as a number that one more still fits.
 fn wide(x: u32) -> u64
@@ -73,7 +72,7 @@ fn count_configs(asked: Asked, words: &[u32], count: u32, at: usize) -> u32
     let mut here = at;
     while number < count {
         match word_records::read_config(words, here) {
-            Place::Next(p) => {
+            Ok(p) => {
                 if config_passes(asked, words, here) {
                     here = p;
                     number += 1;
@@ -81,7 +80,7 @@ fn count_configs(asked: Asked, words: &[u32], count: u32, at: usize) -> u32
                     return number;
                 }
             }
-            Place::Refused(_) => {
+            Err(_) => {
                 return number;
             }
         }

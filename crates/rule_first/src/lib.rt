@@ -3,12 +3,12 @@
 
 ghost use Rattle.std.specs.Prelude.{◌≡◌, eqb, get_or};
 ghost use Rattle.rule_words.specs.Rules.{same_count};
-ghost use Rattle.rule_first.specs.Broken.{first_in, first_row, first_end};
+ghost use Rattle.rule_first.specs.Broken.{first_in};
 
 use rule_words::word_at;
 use word_reader::Sections;
 
-// A rule by its number, 0 for none; and the first mode, state, row or continuation that breaks it, counted from 0.
+// A rule by its number, and the first mode, state, row or continuation that breaks it, counted from 0.
 #[derive(Clone, Copy)]
 pub struct Broken {
     pub rule: u32,
@@ -29,78 +29,64 @@ fn lists(words: &[u32], at: usize, many: u32) -> bool
     many == word_at(words, at)
 }
 
-// The first index rule that is broken. A rule holds where as many obey it as there are.
-pub fn first_broken(words: &[u32], s: Sections) -> Broken
+// The first index rule that is broken, if one is. A rule holds where as many obey it as there are.
+pub fn first_broken(words: &[u32], s: Sections) -> Option<Broken>
     ensures { result ≡ first_in words.now s }
 {
     let starts = rule_walk::starts_that_are_states(words, s.modes, s.states);
-    if lists(words, s.modes, starts) {
-        let states = rule_walk::states_that_are_valid(words, s.states, s.ascii, s.wide, s.accepts);
-        if lists(words, s.states, states) {
-            if same_count(words, s.runs, s.states) {
-                let runs = rule_walk::runs_that_are_classified(words, s.states, s.runs, s.ascii);
-                if lists(words, s.runs, runs) {
-                    return first_broken_row(words, s);
-                }
-                return Broken {
-                    rule: 4,
-                    item: runs,
-                };
-            }
-            return Broken { rule: 3, item: 0 };
-        }
-        return Broken {
+    if !lists(words, s.modes, starts) {
+        return Some(Broken {
+            rule: 1,
+            item: starts,
+        });
+    }
+    let states = rule_walk::states_that_are_valid(words, s.states, s.ascii, s.wide, s.accepts);
+    if !lists(words, s.states, states) {
+        return Some(Broken {
             rule: 2,
             item: states,
-        };
+        });
     }
-    Broken {
-        rule: 1,
-        item: starts,
+    if !same_count(words, s.runs, s.states) {
+        return Some(Broken { rule: 3, item: 0 });
     }
-}
-
-// The same of the rules on the rows and what they lead to, from 5 on.
-fn first_broken_row(words: &[u32], s: Sections) -> Broken
-    ensures { result ≡ first_row words.now s }
-{
+    let runs = rule_walk::runs_that_are_classified(words, s.states, s.runs, s.ascii);
+    if !lists(words, s.runs, runs) {
+        return Some(Broken {
+            rule: 4,
+            item: runs,
+        });
+    }
     let ascii = rule_walk::ascii_rows_that_are_good(words, s.states, s.ascii);
-    if lists(words, s.ascii, ascii) {
-        let wide = rule_walk::wide_rows_that_are_searchable(words, s.states, s.wide);
-        if lists(words, s.wide, wide) {
-            if same_count(words, s.escapes, s.states) {
-                return first_broken_end(words, s);
-            }
-            return Broken { rule: 7, item: 0 };
-        }
-        return Broken {
+    if !lists(words, s.ascii, ascii) {
+        return Some(Broken {
+            rule: 5,
+            item: ascii,
+        });
+    }
+    let wide = rule_walk::wide_rows_that_are_searchable(words, s.states, s.wide);
+    if !lists(words, s.wide, wide) {
+        return Some(Broken {
             rule: 6,
             item: wide,
-        };
+        });
     }
-    Broken {
-        rule: 5,
-        item: ascii,
+    if !same_count(words, s.escapes, s.states) {
+        return Some(Broken { rule: 7, item: 0 });
     }
-}
-
-// The same of the last two.
-fn first_broken_end(words: &[u32], s: Sections) -> Broken
-    ensures { result ≡ first_end words.now s }
-{
     let escapes = rule_walk::escape_rows_that_are_valid(words, s.escapes, s.continuations);
-    if lists(words, s.escapes, escapes) {
-        let continuations = rule_walk::continuations_that_are_valid(words, s.continuations);
-        if lists(words, s.continuations, continuations) {
-            return Broken { rule: 0, item: 0 };
-        }
-        return Broken {
+    if !lists(words, s.escapes, escapes) {
+        return Some(Broken {
+            rule: 8,
+            item: escapes,
+        });
+    }
+    let continuations = rule_walk::continuations_that_are_valid(words, s.continuations);
+    if !lists(words, s.continuations, continuations) {
+        return Some(Broken {
             rule: 9,
             item: continuations,
-        };
+        });
     }
-    Broken {
-        rule: 8,
-        item: escapes,
-    }
+    None
 }

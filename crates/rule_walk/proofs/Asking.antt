@@ -1,12 +1,12 @@
 -- The laws of the questions by name, and of the rules that ask them. Assumes nothing.
-use Prim.Native.Nat.{ℕ, ◌+◌, ◌≤◌}
+use Prim.Native.Nat.{ℕ, ◌≤◌}
 use mathlib.Core.Path.{◌≡◌, ◌∙◌}
 use mathlib.Core.List.{List}
 use mathlib.Core.Bool.{Bool}
 use lib.Dec.{eqb}
 use lib.ListN.{length, get_or}
 use borrow.Author.Rules.{rules}
-use Rattle.word_reader.specs.declared.Place.{Place}
+use Rattle.word_reader.specs.Parse.{Place}
 use Rattle.rule_words.specs.Rules.{item1, item2, item5, item6, item8}
 use Rattle.rule_words.proofs.Laws.{passing_past, numbered-passes}
 use Rattle.rule_walk.specs.declared.Question.{Question}

@@ -1,6 +1,6 @@
 -- The questions by name: what is asked of a record, and of each of a section. Assumes nothing.
 use Rattle.std.specs.Prelude.{ℕ, List, Bool}
-use Rattle.word_reader.specs.declared.Place.{Place}
+use Rattle.word_reader.specs.Parse.{Place}
 use Rattle.word_reader.specs.Records.{mode_at, state_at, run_at, ascii_at, wide_at, accept_at, escape_at, continuation_at}
 use Rattle.rule_words.specs.Rules.{numbered_in, passing_in, start_good, state_good, run_good, ascii_good, wide_good, escape_good, continuation_good}
 use Rattle.rule_words.specs.Flags.{accept_plain, continuation_plain}

@@ -7,8 +7,8 @@ ghost use Rattle.std.specs.Prelude.{◌≡◌};
 ghost use Rattle.rule_words.specs.Rules.{passing, item1, item2, item4, item5, item6, item8, item9};
 ghost use Rattle.rule_walk.specs.Questions.{asked_at, passes, passing_of, all_pass};
 
+use refusal::Refusal;
 use rule_words::word_at;
-use word_reader::Place;
 
 // What is asked of a record, with the numbers that it is judged by: how many states, rows, accepts or continuations there are. A run is judged by
 // the places of the states' and the ASCII rows' counts.
@@ -35,7 +35,7 @@ pub enum Question {
 
 // Where the record that is asked ends. Each question knows its kind of record: so the loop below chooses a reader as it chooses a test, and keeps
 // the place in a register.
-fn read_asked(question: Question, words: &[u32], at: usize) -> Place
+fn read_asked(question: Question, words: &[u32], at: usize) -> Result<usize, Refusal>
     ensures { result ≡ asked_at question words.now at }
 {
     match question {
@@ -87,7 +87,7 @@ fn count_passing(question: Question, words: &[u32], count: u32, at: usize) -> u3
     let mut here = at;
     while number < count {
         match read_asked(question, words, here) {
-            Place::Next(p) => {
+            Ok(p) => {
                 if passes(question, words, number, here) {
                     here = p;
                     number += 1;
@@ -95,7 +95,7 @@ fn count_passing(question: Question, words: &[u32], count: u32, at: usize) -> u3
                     return number;
                 }
             }
-            Place::Refused(_) => {
+            Err(_) => {
                 return number;
             }
         }

@@ -13,8 +13,8 @@ use borrow.Author.Rules.{rules}
 use borrow.Author.Tests.{eq-eqb, ne_eqb}
 use Rattle.refusal.specs.Lists.{pick}
 use Rattle.refusal.specs.declared.Refusal.{Refusal}
-use Rattle.word_reader.specs.declared.Place.{Place}
-use Rattle.word_reader.specs.declared.Place.TheVariants.{Next, Refused}
+use Rattle.word_reader.specs.Parse.{Place}
+use Rattle.std.specs.Prelude.{Ok, Err}
 use Rattle.rule_words.specs.Rules.{every_from, every, every_in, numbered_in, walk, read_or, passing, passing_in, sized}
 
 -- A word past the end is 0.
@@ -78,17 +78,17 @@ module _ (test : ℕ → ℕ → Bool) (f : ℕ → Place) where
     one_more_lem h = omega arith
 
     -- a record passed: go on behind it
-    pub one_passed : {p : ℕ} {got : Place} {ok : Bool} → i < n → got ≡ f here → got ≡ Next p → ok ≡ test i here → ok ≡ true
+    pub one_passed : {p : ℕ} {got : Place} {ok : Bool} → i < n → got ≡ f here → got ≡ Ok p → ok ≡ test i here → ok ≡ true
         → passing test f (i + 1) (n - (i + 1)) p ≡ all
     unfolding passing read_or
     one_passed h g e o y = rw (one_more_lem h, ← g, e, ← o, y) at inv
 
     -- it failed, or none is there
-    pub one_failed : {p : ℕ} {got : Place} {ok : Bool} → i < n → got ≡ f here → got ≡ Next p → ok ≡ test i here → ok ≡ false → i ≡ all
+    pub one_failed : {p : ℕ} {got : Place} {ok : Bool} → i < n → got ≡ f here → got ≡ Ok p → ok ≡ test i here → ok ≡ false → i ≡ all
     unfolding passing read_or
     one_failed h g e o y = rw (one_more_lem h, ← g, e, ← o, y) at inv
 
-    pub one_lost : {r : Refusal} {got : Place} → i < n → got ≡ f here → got ≡ Refused r → i ≡ all
+    pub one_lost : {r : Refusal} {got : Place} → i < n → got ≡ f here → got ≡ Err r → i ≡ all
     unfolding passing read_or
     one_lost h g e = rw (one_more_lem h, ← g, e) at inv
 
@@ -110,10 +110,10 @@ walk-passing test f i (suc n) at = go (test i at) (f at) (walk-passing test f (i
 
     go : (b : Bool) (o : Place) → ((p : ℕ) → walk test (λ i p. i + 1) f (i + 1) n p ≡ eqb (passing test f (i + 1) n p) (i + 1 + n))
         → (b && every_from o (walk test (λ i p. i + 1) f (i + 1) n)) ≡ eqb (read_or i o (λ p. pick b (passing test f (i + 1) n p) i)) (i + suc n)
-    go true (Next p) h = let e : i + suc n ≡ i + 1 + n = omega arith in rw e (h p)
-    go true (Refused r) h = none
-    go false (Next p) h = none
-    go false (Refused r) h = none
+    go true (Ok p) h = let e : i + suc n ≡ i + 1 + n = omega arith in rw e (h p)
+    go true (Err r) h = none
+    go false (Ok p) h = none
+    go false (Err r) h = none
 
 -- a test that asks for no number judges alike whatever is handed on
 walk_any : (test : ℕ → Bool) (f : ℕ → Place) (g h : ℕ → ℕ → ℕ) (x y n at : ℕ) → walk (λ x p. test p) g f x n at ≡ walk (λ x p. test p) h f y n at
@@ -123,8 +123,8 @@ walk_any test f g h x y (suc n) at = go (f at) (walk_any test f g h (g x at) (h 
   where
     go : (o : Place) → ((p : ℕ) → walk (λ x p. test p) g f (g x at) n p ≡ walk (λ x p. test p) h f (h y at) n p)
         → (test at && every_from o (walk (λ x p. test p) g f (g x at) n)) ≡ (test at && every_from o (walk (λ x p. test p) h f (h y at) n))
-    go (Next p) k = ap (λ b. test at && b) (k p)
-    go (Refused r) k = refl
+    go (Ok p) k = ap (λ b. test at && b) (k p)
+    go (Err r) k = refl
 
 pub in_section : (read : List ℕ → ℕ → Place) (test : ℕ → Bool) (w : List ℕ) (at : ℕ) → numbered_in read (λ i. test) w at ≡ every_in read test w at
 unfolding every_in every

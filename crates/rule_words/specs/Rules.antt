@@ -9,8 +9,8 @@ use Rattle.run_shape.specs.Shape.{held}
 use Rattle.run_shape.specs.Classify.{classification}
 use Rattle.run_shape.specs.Words.{words_of_run}
 use Rattle.word_reader.specs.declared.Sections.{Sections}
-use Rattle.word_reader.specs.declared.Place.{Place}
-use Rattle.word_reader.specs.declared.Place.TheVariants.{Next, Refused}
+use Rattle.word_reader.specs.Parse.{Place}
+use Rattle.std.specs.Prelude.{Ok, Err}
 use Rattle.refusal.specs.Fixed.{NONE, ESCAPE-STATE, DEAD-STATE}
 use Rattle.word_reader.specs.Records.{mode_at, state_at, run_at, ascii_at, wide_at, escape_at, config_at, continuation_at}
 
@@ -18,8 +18,8 @@ use Rattle.word_reader.specs.Records.{mode_at, state_at, run_at, ascii_at, wide_
 
 -- on from where a record ends; where its reader refuses, the test fails
 unfoldable pub every_from : Place → (ℕ → Bool) → Bool
-every_from (Next p) k = k p
-every_from (Refused r) k = false
+every_from (Ok p) k = k p
+every_from (Err r) k = false
 
 -- n records, each found behind the one before it, and judged by its place and by x, of which it hands the next on
 unfoldable pub walk : (ℕ → ℕ → Bool) → (ℕ → ℕ → ℕ) → (ℕ → Place) → ℕ → ℕ → ℕ → Bool
@@ -40,8 +40,8 @@ numbered_in read test w at = walk test (λ i p. i + 1) (read w) 0 (get_or w at 0
 
 -- on from where a record ends; where its reader refuses, i
 unfoldable pub read_or : ℕ → Place → (ℕ → ℕ) → ℕ
-read_or i (Next p) k = k p
-read_or i (Refused r) k = i
+read_or i (Ok p) k = k p
+read_or i (Err r) k = i
 
 -- how many records pass before the first that does not: i are behind, n are left, and each is read, and judged by its number and its place
 unfoldable pub passing : (ℕ → ℕ → Bool) → (ℕ → Place) → ℕ → ℕ → ℕ → ℕ
@@ -54,7 +54,7 @@ passing_in read test w at = passing test (read w) 0 (get_or w at 0) (at + 1)
 
 -- a record of so many words, whatever they are
 abbrev pub sized : ℕ → ℕ → Place
-sized n at = Next (at + n)
+sized n at = Ok (at + n)
 
 -- What a number may refer to
 

@@ -10,29 +10,27 @@ use Rattle.refusal.specs.declared.Refusal.{Refusal}
 use Rattle.refusal.specs.Said.{Said, ok, no_by, SHORT, TAG}
 use Rattle.refusal.specs.Fixed.{tag}
 use Rattle.refusal.specs.Lists.{pick}
-use Rattle.word_reader.specs.declared.Place.{Place}
-use Rattle.word_reader.specs.declared.Place.TheVariants.{Next, Refused}
+use Rattle.std.specs.Prelude.{Ok, Err}
 use Rattle.word_reader.specs.declared.Sections.{Sections}
-use Rattle.word_reader.specs.Parse.{and_then, section}
+use Rattle.word_reader.specs.Parse.{Place, and_then, section}
 use Rattle.word_reader.specs.Records.{mode_at, state_at, run_at, ascii_at, wide_at, accept_at, escape_at, continuation_at}
-use Rattle.word_layout.specs.declared.Layout.{Layout}
-use Rattle.word_layout.specs.declared.Layout.TheVariants.{Found, Unfound}
-use Rattle.word_layout.specs.Layout.{said, unfound, place_of, sections_from, sections_in, at_end, closed, after_continuations, layout_of}
+use Rattle.std.specs.Prelude.{Ok, Err}
+use Rattle.word_layout.specs.Layout.{Layout, said, unfound, place_of, sections_from, sections_in, at_end, closed, after_continuations, layout_of}
 
 -- the section before was read, or refused
-pub goes : (k : ℕ → Place) {p : ℕ} {at r : Place} → at ≡ Next p → r ≡ k p → r ≡ and_then at k
+pub goes : (k : ℕ → Place) {p : ℕ} {at r : Place} → at ≡ Ok p → r ≡ k p → r ≡ and_then at k
 unfolding and_then
 goes k e h = h ∙ (rw e)
 
-pub halts : (k : ℕ → Place) {r : Refusal} {at : Place} → at ≡ Refused r → Refused r ≡ and_then at k
+pub halts : (k : ℕ → Place) {r : Refusal} {at : Place} → at ≡ Err r → Err r ≡ and_then at k
 unfolding and_then
 halts k e = rw e
 
-pub is_place : {p : ℕ} {at : Place} → at ≡ Next p → p ≡ place_of at
+pub is_place : {p : ℕ} {at : Place} → at ≡ Ok p → p ≡ place_of at
 unfolding place_of
 is_place e = rw e
 
-pub no_place : {r : Refusal} {at : Place} → at ≡ Refused r → 0 ≡ place_of at
+pub no_place : {r : Refusal} {at : Place} → at ≡ Err r → 0 ≡ place_of at
 unfolding place_of
 no_place e = rw e
 
@@ -57,15 +55,15 @@ pub ruleset ends = (rules, layout_form, eq-eqb, ne_eqb, lt-ltb, le-ltb)
 
 -- all eight, read one behind the other
 module _ (w : List ℕ) {s r a v x e c o : Place}
-    (h₁ : s ≡ and_then (Next 1) (section mode_at w)) (h₂ : r ≡ and_then s (section state_at w)) (h₃ : a ≡ and_then r (section run_at w))
+    (h₁ : s ≡ and_then (Ok 1) (section mode_at w)) (h₂ : r ≡ and_then s (section state_at w)) (h₃ : a ≡ and_then r (section run_at w))
     (h₄ : v ≡ and_then a (section ascii_at w)) (h₅ : x ≡ and_then v (section wide_at w)) (h₆ : e ≡ and_then x (section accept_at w))
     (h₇ : c ≡ and_then e (section escape_at w)) (h₈ : o ≡ and_then c (section continuation_at w)) where
-  pub all_read : {end : ℕ} {f : Sections} {got : Layout} → o ≡ Next end → f ≡ sections_from s r a v x e c → got ≡ at_end w f end
+  pub all_read : {end : ℕ} {f : Sections} {got : Layout} → o ≡ Ok end → f ≡ sections_from s r a v x e c → got ≡ at_end w f end
       → got ≡ closed w (sections_in w) (after_continuations w)
   unfolding closed
   all_read g f l = l ∙ (rw (f, ← h₁, ← h₂, ← h₃, ← h₄, ← h₅, ← h₆, ← h₇, ← h₈, g))
 
-  pub not_read : {q : Refusal} → o ≡ Refused q → Unfound q ≡ closed w (sections_in w) (after_continuations w)
+  pub not_read : {q : Refusal} → o ≡ Err q → Err q ≡ closed w (sections_in w) (after_continuations w)
   unfolding closed
   not_read g = rw (← h₁, ← h₂, ← h₃, ← h₄, ← h₅, ← h₆, ← h₇, ← h₈, g)
 
@@ -73,7 +71,7 @@ pub ruleset sections = (rules, all_read, not_read)
 
 -- `said` takes no two answers to one: what it says gives the answer back
 abbrev back : Said → Layout
-back (ok l) = Found (record {
+back (ok l) = Ok (record {
   modes = get_or l 0 0;
   states = get_or l 1 0;
   runs = get_or l 2 0;
@@ -83,11 +81,11 @@ back (ok l) = Found (record {
   escapes = get_or l 6 0;
   continuations = get_or l 7 0;
 })
-back (no_by r) = Unfound r
+back (no_by r) = Err r
 
 back-said : (x : Layout) → back (said x) ≡ x
-back-said (Found s) = refl
-back-said (Unfound r) = refl
+back-said (Ok s) = refl
+back-said (Err r) = refl
 
 pub said_one : (x y : Layout) → said x ≡ said y → x ≡ y
 said_one x y e = sym (back-said x) ∙ ap back e ∙ back-said y

@@ -11,9 +11,8 @@ use lib.ListN.{length}
 use Rattle.refusal.specs.Said.{LIMIT, ROOM}
 use Rattle.refusal.specs.Lists.{pick}
 use Rattle.word_reader.specs.declared.Sections.{Sections}
-use Rattle.word_layout.specs.declared.Layout.{Layout}
-use Rattle.word_layout.specs.declared.Layout.TheVariants.{Found}
-use Rattle.word_layout.specs.Layout.{unfound, layout_of}
+use Rattle.std.specs.Prelude.{Ok}
+use Rattle.word_layout.specs.Layout.{Layout, unfound, layout_of}
 use Rattle.word_layout.specs.Limits.{laid_out}
 
 module _ (w : List ℕ) (n : ℕ) where
@@ -37,13 +36,13 @@ pub ruleset limiting = (rules, no_room, past_limit, is_laid)
 pub record Kept (w : List ℕ) (n : ℕ) (s : Sections) : Type 0 where
   pub room : 16384 ≤ n
   pub limit : length w ≤ 8192
-  pub laid : layout_of w ≡ Found s
+  pub laid : layout_of w ≡ Ok s
 
-pub kept : (w : List ℕ) (n : ℕ) {s : Sections} → laid_out w n ≡ Found s → Kept w n s
+pub kept : (w : List ℕ) (n : ℕ) {s : Sections} → laid_out w n ≡ Ok s → Kept w n s
 unfolding laid_out
 kept w n {s} h = go (ltb n 16384) (ltb 8192 (length w)) refl refl h
   where
-    go : (p q : Bool) → ltb n 16384 ≡ p → ltb 8192 (length w) ≡ q → pick p (unfound ROOM 0) (pick q (unfound LIMIT 8192) (layout_of w)) ≡ Found s → Kept w n s
+    go : (p q : Bool) → ltb n 16384 ≡ p → ltb 8192 (length w) ≡ q → pick p (unfound ROOM 0) (pick q (unfound LIMIT 8192) (layout_of w)) ≡ Ok s → Kept w n s
     go true q i j k = let z : ◌≡◌ {A = ℕ} 0 1 = cc in absurd (omega arith)
     go false true i j k = let z : ◌≡◌ {A = ℕ} 0 1 = cc in absurd (omega arith)
     go false false i j k = record { room = ltb-false n 16384 i; limit = ltb-false 8192 (length w) j; laid = k }

@@ -2,8 +2,7 @@
 use Rattle.std.specs.Prelude.{ℕ, List, length, ltb}
 use Rattle.refusal.specs.Said.{LIMIT, ROOM}
 use Rattle.refusal.specs.Lists.{pick}
-use Rattle.word_layout.specs.declared.Layout.{Layout}
-use Rattle.word_layout.specs.Layout.{unfound, layout_of}
+use Rattle.word_layout.specs.Layout.{Layout, unfound, layout_of}
 
 -- "Decoding: ROOM (table room under 16,384 numbers), LIMIT, then words in order, LEFT"
 unfoldable pub laid_out : List ℕ → ℕ → Layout

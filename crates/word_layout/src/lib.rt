@@ -9,20 +9,13 @@ ghost use Rattle.word_layout.specs.Layout.{unfound, place_of, sections_from, at_
 ghost use Rattle.word_layout.specs.Limits.{laid_out};
 
 use refusal::{LEFT, LIMIT, MAX_WORDS, ROOM, ROOM_NUMBERS, Refusal, SERIALIZED_TAG, SHORT, TAG};
-use word_reader::{Place, Sections};
+use word_reader::Sections;
 use word_sections::Kind;
 
-// The sections of a table, or why the words are none.
-#[derive(Clone, Copy)]
-pub enum Layout {
-    Found(Sections),
-    Unfound(Refusal),
-}
-
-fn unfound(number: u32, place: usize) -> Layout
+fn unfound(number: u32, place: usize) -> Result<Sections, Refusal>
     ensures { result ≡ unfound number place }
 {
-    Layout::Unfound(Refusal {
+    Err(Refusal {
         number,
         item: 0,
         place,
@@ -30,33 +23,33 @@ fn unfound(number: u32, place: usize) -> Layout
 }
 
 // The section of a kind, which starts where the one before it ended.
-fn read_on(kind: Kind, words: &[u32], at: Place) -> Place
+fn read_on(kind: Kind, words: &[u32], at: Result<usize, Refusal>) -> Result<usize, Refusal>
     ensures { result ≡ and_then at (section (record_at kind) words.now) }
 {
     match at {
-        Place::Next(p) => word_sections::read_section(kind, words, p),
-        Place::Refused(r) => Place::Refused(r),
+        Ok(p) => word_sections::read_section(kind, words, p),
+        Err(r) => Err(r),
     }
 }
 
-fn place_of(at: Place) -> usize
+fn place_of(at: Result<usize, Refusal>) -> usize
     ensures { result ≡ place_of at }
 {
     match at {
-        Place::Next(p) => p,
-        Place::Refused(_) => 0,
+        Ok(p) => p,
+        Err(_) => 0,
     }
 }
 
 // The modes stand behind the tag, and the others where these say.
 fn sections_from(
-    states: Place,
-    runs: Place,
-    ascii: Place,
-    wide: Place,
-    accepts: Place,
-    escapes: Place,
-    continuations: Place,
+    states: Result<usize, Refusal>,
+    runs: Result<usize, Refusal>,
+    ascii: Result<usize, Refusal>,
+    wide: Result<usize, Refusal>,
+    accepts: Result<usize, Refusal>,
+    escapes: Result<usize, Refusal>,
+    continuations: Result<usize, Refusal>,
 ) -> Sections
     ensures { result ≡ sections_from states runs ascii wide accepts escapes continuations }
 {
@@ -73,20 +66,20 @@ fn sections_from(
 }
 
 // The last section ends at `end`: all words must have been read.
-fn at_end(words: &[u32], sections: Sections, end: usize) -> Layout
+fn at_end(words: &[u32], sections: Sections, end: usize) -> Result<Sections, Refusal>
     ensures { result ≡ at_end words.now sections end }
 {
     if end < words.len() {
         return unfound(LEFT, end);
     }
-    Layout::Found(sections)
+    Ok(sections)
 }
 
 // The eight sections behind the tag, one after the other.
-fn read_sections(words: &[u32]) -> Layout
+fn read_sections(words: &[u32]) -> Result<Sections, Refusal>
     ensures { result ≡ closed words.now (sections_in words.now) (after_continuations words.now) }
 {
-    let states = read_on(Kind::Mode, words, Place::Next(1));
+    let states = read_on(Kind::Mode, words, Ok(1));
     let runs = read_on(Kind::State, words, states);
     let ascii = read_on(Kind::AsciiRun, words, runs);
     let wide = read_on(Kind::AsciiRow, words, ascii);
@@ -94,17 +87,17 @@ fn read_sections(words: &[u32]) -> Layout
     let escapes = read_on(Kind::Accept, words, accepts);
     let continuations = read_on(Kind::EscapeRow, words, escapes);
     match read_on(Kind::Continuation, words, continuations) {
-        Place::Next(end) => at_end(
+        Ok(end) => at_end(
             words,
             sections_from(states, runs, ascii, wide, accepts, escapes, continuations),
             end,
         ),
-        Place::Refused(r) => Layout::Unfound(r),
+        Err(r) => Err(r),
     }
 }
 
 // The tag, then the sections one after the other, and nothing behind them.
-pub fn find_sections(words: &[u32]) -> Layout
+pub fn find_sections(words: &[u32]) -> Result<Sections, Refusal>
     ensures { result ≡ layout_of words.now }
 {
     if words.len() == 0 {
@@ -117,18 +110,18 @@ pub fn find_sections(words: &[u32]) -> Layout
 }
 
 // Where the sections of a table start, whose words these are and whose room has so many numbers; or why there is none.
-pub fn find_within_limits(words: &[u32], numbers: usize) -> Layout
+pub fn find_within_limits(words: &[u32], numbers: usize) -> Result<Sections, Refusal>
     ensures { result ≡ laid_out words.now numbers }
 {
     if numbers < ROOM_NUMBERS {
-        return Layout::Unfound(Refusal {
+        return Err(Refusal {
             number: ROOM,
             item: 0,
             place: 0,
         });
     }
     if MAX_WORDS < words.len() {
-        return Layout::Unfound(Refusal {
+        return Err(Refusal {
             number: LIMIT,
             item: 0,
             place: MAX_WORDS,

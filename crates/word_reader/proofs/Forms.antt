@@ -8,9 +8,8 @@ use lib.Dec.{ltb, leb}
 use lib.ListN.{length, get_or}
 use borrow.Author.Tests.{le-leb, lt-ltb, le-ltb, leb-true, leb-false}
 use Rattle.refusal.specs.Lists.{pick}
-use Rattle.word_reader.specs.declared.Place.{Place}
-use Rattle.word_reader.specs.declared.Place.TheVariants.{Next}
-use Rattle.word_reader.specs.Parse.{short, and_then, word, fields, many, section, both}
+use Rattle.std.specs.Prelude.{Ok}
+use Rattle.word_reader.specs.Parse.{Place, short, and_then, word, fields, many, section, both}
 use Rattle.word_reader.specs.Records.{any}
 use Rattle.word_reader.proofs.Laws.{ahead}
 
@@ -80,11 +79,11 @@ counted f n w at =
     last (λ p c. many (f w) c (p + 1)) n w at ∙ (rw e)
 
 -- a list behind fields of any value
-through : (w : List ℕ) (n at : ℕ) (k : ℕ → Place) → and_then (ahead w n at Next) k ≡ ahead w n at k
+through : (w : List ℕ) (n at : ℕ) (k : ℕ → Place) → and_then (ahead w n at Ok) k ≡ ahead w n at k
 unfolding and_then ahead
 through w n at k = go (leb (at + n) (length w))
   where
-    go : (b : Bool) → and_then (pick b (Next (at + n)) (short w)) k ≡ pick b (k (at + n)) (short w)
+    go : (b : Bool) → and_then (pick b (Ok (at + n)) (short w)) k ≡ pick b (k (at + n)) (short w)
     go true = refl
     go false = refl
 

@@ -14,9 +14,8 @@ use borrow.Author.Tests.{le-leb, lt-leb, lt-ltb, le-ltb, eq-eqb, ne_eqb, ltb-tru
 use Rattle.refusal.specs.declared.Refusal.{Refusal}
 use Rattle.refusal.specs.Said.{Said, ok, no_by}
 use Rattle.refusal.specs.Lists.{pick}
-use Rattle.word_reader.specs.declared.Place.{Place}
-use Rattle.word_reader.specs.declared.Place.TheVariants.{Next, Refused}
-use Rattle.word_reader.specs.Parse.{said, refused, short, and_then, word, many, section, both}
+use Rattle.std.specs.Prelude.{Ok, Err}
+use Rattle.word_reader.specs.Parse.{Place, said, short, and_then, word, many, section, both}
 
 -- n words are there, and on behind them
 unfoldable pub ahead : List ℕ → ℕ → ℕ → (ℕ → Place) → Place
@@ -65,19 +64,19 @@ pub ruleset counting = (rules, counted, uncounted)
 -- The law of every loop over records. Its invariant: the records that are left, read from here, give what all of them give.
 module _ (f : ℕ → Place) where
   -- a record was read: go on behind it
-  pub turn : {left here next : ℕ} {got all : Place} → 0 < left → got ≡ f here → got ≡ Next next → many f left here ≡ all → many f (left - 1) next ≡ all
+  pub turn : {left here next : ℕ} {got all : Place} → 0 < left → got ≡ f here → got ≡ Ok next → many f left here ≡ all → many f (left - 1) next ≡ all
   unfolding many and_then
   turn {left = zero} h g e i = absurd (not-suc-le-zero h)
   turn {left = suc n} h g e i = rw sub-one (rw (← g, e) at i)
 
   -- a record was refused: so are all
-  pub stop : {left here : ℕ} {r : Refusal} {got all : Place} → 0 < left → got ≡ f here → got ≡ Refused r → many f left here ≡ all → Refused r ≡ all
+  pub stop : {left here : ℕ} {r : Refusal} {got all : Place} → 0 < left → got ≡ f here → got ≡ Err r → many f left here ≡ all → Err r ≡ all
   unfolding many and_then
   stop {left = zero} h g e i = absurd (not-suc-le-zero h)
   stop {left = suc n} h g e i = rw (← g, e) at i
 
   -- none is left
-  pub done : {left here : ℕ} {all : Place} → left ≤ 0 → many f left here ≡ all → Next here ≡ all
+  pub done : {left here : ℕ} {all : Place} → left ≤ 0 → many f left here ≡ all → Ok here ≡ all
   unfolding many
   done {left = zero} h i = i
   done {left = suc n} h i = absurd (not-suc-le-zero h)
@@ -86,11 +85,11 @@ module _ (f : ℕ → Place) where
 pub ruleset loop = (rules, turn, stop, done)
 
 -- a record behind another: the first was read, or refused
-pub joins : (f g : List ℕ → ℕ → Place) (w : List ℕ) (at : ℕ) {p : ℕ} {got r : Place} → got ≡ f w at → got ≡ Next p → r ≡ g w p → r ≡ both f g w at
+pub joins : (f g : List ℕ → ℕ → Place) (w : List ℕ) (at : ℕ) {p : ℕ} {got r : Place} → got ≡ f w at → got ≡ Ok p → r ≡ g w p → r ≡ both f g w at
 unfolding both and_then
 joins f g w at e n h = h ∙ (rw (← e, n))
 
-pub breaks : (f g : List ℕ → ℕ → Place) (w : List ℕ) (at : ℕ) {x : Refusal} {got : Place} → got ≡ f w at → got ≡ Refused x → Refused x ≡ both f g w at
+pub breaks : (f g : List ℕ → ℕ → Place) (w : List ℕ) (at : ℕ) {x : Refusal} {got : Place} → got ≡ f w at → got ≡ Err x → Err x ≡ both f g w at
 unfolding both and_then
 breaks f g w at e n = rw (← e, n)
 
@@ -99,12 +98,12 @@ pub ruleset joining = (rules, joins, breaks)
 
 -- `said` takes no two answers to one: what it says gives the answer back
 abbrev back : Said → Place
-back (ok l) = Next (get_or l 0 0)
-back (no_by r) = Refused r
+back (ok l) = Ok (get_or l 0 0)
+back (no_by r) = Err r
 
 back-said : (x : Place) → back (said x) ≡ x
-back-said (Next p) = refl
-back-said (Refused r) = refl
+back-said (Ok p) = refl
+back-said (Err r) = refl
 
 pub said_one : (x y : Place) → said x ≡ said y → x ≡ y
 said_one x y e = sym (back-said x) ∙ ap back e ∙ back-said y

@@ -1,12 +1,11 @@
 -- The records of a table, each as it is read (document 01, "Words of a table").
 use Rattle.std.specs.Prelude.{ℕ, ◌+◌, List, [], ◌∷◌, Bool, true, ◌||◌, get_or, leb, eqb}
 use Rattle.refusal.specs.Fixed.{NONE}
-use Rattle.word_reader.specs.declared.Place.{Place}
-use Rattle.word_reader.specs.declared.Place.TheVariants.{Next}
+use Rattle.std.specs.Prelude.{Ok}
 use Rattle.run_shape.specs.Shape.{Got, run, refused}
 use Rattle.run_shape.specs.Words.{read_at, size_of}
 use Rattle.word_reader.specs.Parse as parse
-use Rattle.word_reader.specs.Parse.{fields, block, section, both}
+use Rattle.word_reader.specs.Parse.{Place, fields, block, section, both}
 
 -- What a field allows
 
@@ -33,7 +32,7 @@ state_at = fields (any ∷ any ∷ target ∷ any ∷ [])
 
 -- "4. runs": where the run that is read ends
 abbrev pub after_run : ℕ → Got → Place
-after_run at (run r) = Next (at + size_of r.kind)
+after_run at (run r) = Ok (at + size_of r.kind)
 after_run at (refused n p) = parse.refused n p
 
 abbrev pub run_at : List ℕ → ℕ → Place

@@ -1,6 +1,6 @@
 // The covered reader of a table's words: a slice and a number for the place. Each record of a table has a reader, which says where
 // reading goes on behind the record, or refuses by number and place. Here is what all readers share, and in specs/ what each record is;
-// the readers stand in `simple_words`, `run_words`, `listed_words`, `wide_words` and `continuation_words`.
+// the readers stand in `word_records`.
 #![tactic(auto)]
 
 ghost use Rattle.std.specs.Prelude.{◌≡◌, ◌-◌, length};
@@ -11,13 +11,6 @@ use refusal::{FIELD, Refusal, SHORT};
 
 // The greatest target that a state, a mode or a range may have.
 pub const MAX_TARGET: u32 = 65535;
-
-// Where reading goes on, or why it does not.
-#[derive(Clone, Copy)]
-pub enum Place {
-    Next(usize),
-    Refused(Refusal),
-}
 
 // Where the sections of a table start: the places of their counts among its words.
 #[derive(Clone, Copy)]
@@ -33,10 +26,10 @@ pub struct Sections {
 }
 
 // The input ended: SHORT in words returns the word count.
-pub fn short(words: &[u32]) -> Place
+pub fn short(words: &[u32]) -> Result<usize, Refusal>
     ensures { result ≡ short words.now }
 {
-    Place::Refused(Refusal {
+    Err(Refusal {
         number: SHORT,
         item: 0,
         place: words.len(),
@@ -44,10 +37,10 @@ pub fn short(words: &[u32]) -> Place
 }
 
 // The word at `at` is one that its field forbids.
-pub fn field(at: usize) -> Place
+pub fn field(at: usize) -> Result<usize, Refusal>
     ensures { result ≡ refused FIELD at }
 {
-    Place::Refused(Refusal {
+    Err(Refusal {
         number: FIELD,
         item: 0,
         place: at,

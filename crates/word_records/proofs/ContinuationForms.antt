@@ -10,17 +10,17 @@ use lib.Seq.{drop-cons}
 use borrow.Author.Tests.{leb-true}
 use Rattle.refusal.specs.Said.{FIELD}
 use Rattle.refusal.specs.Lists.{pick}
-use Rattle.word_reader.specs.declared.Place.TheVariants.{Next}
+use Rattle.std.specs.Prelude.{Ok}
 use Rattle.word_reader.specs.Parse.{short, refused, block}
 use Rattle.word_reader.specs.Records.{context_at, good_context}
 use Rattle.word_reader.proofs.Laws.{ahead}
 
-pub context_form : (w : List ℕ) (at : ℕ) → context_at w at ≡ ahead w 3 at (λ q. pick (leb (get_or w at 0) 1) (Next q) (refused FIELD at))
+pub context_form : (w : List ℕ) (at : ℕ) → context_at w at ≡ ahead w 3 at (λ q. pick (leb (get_or w at 0) 1) (Ok q) (refused FIELD at))
 unfolding block ahead good_context
 context_form w at = go (leb (at + 3) (length w)) refl
   where
     go : (b : Bool) → leb (at + 3) (length w) ≡ b
-        → pick b (pick (leb (get_or (take 3 (drop at w)) 0 0) 1) (Next (at + 3)) (refused FIELD at)) (short w)
-        ≡ pick b (pick (leb (get_or w at 0) 1) (Next (at + 3)) (refused FIELD at)) (short w)
+        → pick b (pick (leb (get_or (take 3 (drop at w)) 0 0) 1) (Ok (at + 3)) (refused FIELD at)) (short w)
+        ≡ pick b (pick (leb (get_or w at 0) 1) (Ok (at + 3)) (refused FIELD at)) (short w)
     go true u = let h : at < length w = omega (arith, leb-true (at + 3) (length w) u) in rw (drop-cons w at 0 h)
     go false u = refl

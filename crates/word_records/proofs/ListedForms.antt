@@ -3,13 +3,13 @@ use Prim.Native.Nat.{ℕ, ◌+◌}
 use mathlib.Core.Path.{◌≡◌}
 use mathlib.Core.List.{List, []}
 use lib.ListN.{get_or}
-use Rattle.word_reader.specs.declared.Place.TheVariants.{Next}
+use Rattle.std.specs.Prelude.{Ok}
 use Rattle.word_reader.specs.Parse.{fields, many}
 use Rattle.word_reader.specs.Records.{triple_at, accept_at, escape_at, config_at}
 use Rattle.word_reader.proofs.Laws.{ahead}
 use Rattle.word_reader.proofs.Forms.{heads, listed}
 
-pub triple_form : (w : List ℕ) (at : ℕ) → triple_at w at ≡ ahead w 3 at Next
+pub triple_form : (w : List ℕ) (at : ℕ) → triple_at w at ≡ ahead w 3 at Ok
 unfolding fields
 triple_form w at = heads 2 [] w at
 

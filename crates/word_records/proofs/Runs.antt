@@ -20,7 +20,7 @@ use Rattle.run_shape.specs.declared.RunAnswer.{RunAnswer}
 use Rattle.run_shape.specs.Shape.{Got, run, refused, Gives}
 use Rattle.run_shape.specs.Words.{read_at, size_of}
 use Rattle.run_shape.proofs.Answers.{given}
-use Rattle.word_reader.specs.declared.Place.TheVariants.{Next, Refused as Halted}
+use Rattle.std.specs.Prelude.{Ok, Err}
 use Rattle.word_reader.specs.Records.{after_run}
 
 -- a run has at most three words
@@ -50,7 +50,7 @@ module _ {q : RunAnswer} where
       → length w * 4 < 2 ^ 63 → Fits w64 (at + n)
   end_fits w at n j h e s l = omega (arith, inside w at h e, size_≤ j)
 
-  pub goes_on_lem : (at : ℕ) (g : Got) {k : AsciiRun} {n : ℕ} → Gives q g → q.answer ≡ Ran k → n ≡ size_of k → Next (at + n) ≡ after_run at g
+  pub goes_on_lem : (at : ℕ) (g : Got) {k : AsciiRun} {n : ℕ} → Gives q g → q.answer ≡ Ran k → n ≡ size_of k → Ok (at + n) ≡ after_run at g
   goes_on_lem at (run x) {k} h e s =
       let f = given (run x) h in
       let i : x.kind ≡ k = cc in
@@ -60,7 +60,7 @@ module _ {q : RunAnswer} where
       let z : ◌≡◌ {A = ℕ} 0 1 = cc in
       absurd (omega arith)
 
-  pub halts : (at : ℕ) (g : Got) {r : Refusal} → Gives q g → q.answer ≡ Refused r → Halted r ≡ after_run at g
+  pub halts : (at : ℕ) (g : Got) {r : Refusal} → Gives q g → q.answer ≡ Refused r → Err r ≡ after_run at g
   halts at (run x) h e =
       let f = given (run x) h in
       let z : ◌≡◌ {A = ℕ} 0 1 = cc in

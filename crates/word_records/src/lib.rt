@@ -8,12 +8,12 @@ ghost use Rattle.word_reader.specs.Records.{mode_at, state_at, run_at, ascii_at,
 ghost use Rattle.word_reader.specs.Records.{escape_at, config_at, context_at, continuation_at};
 ghost use Rattle.word_reader.specs.Parse.{many, section};
 
-use refusal::NONE;
+use refusal::{NONE, Refusal};
 use run_shape::Answered;
-use word_reader::{MAX_TARGET, Place};
+use word_reader::MAX_TARGET;
 
 // A mode: start state, or NONE.
-pub fn read_mode(words: &[u32], at: usize) -> Place
+pub fn read_mode(words: &[u32], at: usize) -> Result<usize, Refusal>
     ensures { result ≡ mode_at words.now at }
 {
     if words.len() <= at {
@@ -21,16 +21,16 @@ pub fn read_mode(words: &[u32], at: usize) -> Place
     }
     let start = words[at];
     if start <= MAX_TARGET {
-        return Place::Next(at + 1);
+        return Ok(at + 1);
     }
     if start == NONE {
-        return Place::Next(at + 1);
+        return Ok(at + 1);
     }
     word_reader::field(at)
 }
 
 // A state: ascii row, wide row, EOF target, accept index. The EOF target is judged before the accept index is read.
-pub fn read_state(words: &[u32], at: usize) -> Place
+pub fn read_state(words: &[u32], at: usize) -> Result<usize, Refusal>
     ensures { result ≡ state_at words.now at }
 {
     let left = word_reader::left_from(words, at);
@@ -44,36 +44,36 @@ pub fn read_state(words: &[u32], at: usize) -> Place
     if left < 4 {
         return word_reader::short(words);
     }
-    Place::Next(at + 4)
+    Ok(at + 4)
 }
 
 // The words of an ASCII row: two symbols each.
 const ROW_WORDS: usize = 64;
 
 // A run: one word, or three.
-pub fn read_run(words: &[u32], at: usize) -> Place
+pub fn read_run(words: &[u32], at: usize) -> Result<usize, Refusal>
     ensures { result ≡ run_at words.now at }
 {
     let read = run_words::read_serialized(words, at);
     let answer = read.answer;
     match answer {
-        Answered::Ran(kind) => Place::Next(at + run_shape::serialized_words(kind)),
-        Answered::Refused(r) => Place::Refused(r),
+        Answered::Ran(kind) => Ok(at + run_shape::serialized_words(kind)),
+        Answered::Refused(r) => Err(r),
     }
 }
 
 // An ASCII row.
-pub fn read_ascii_row(words: &[u32], at: usize) -> Place
+pub fn read_ascii_row(words: &[u32], at: usize) -> Result<usize, Refusal>
     ensures { result ≡ ascii_at words.now at }
 {
     if word_reader::left_from(words, at) < ROW_WORDS {
         return word_reader::short(words);
     }
-    Place::Next(at + ROW_WORDS)
+    Ok(at + ROW_WORDS)
 }
 
 // A wide range: low, high, target.
-fn read_range(words: &[u32], at: usize) -> Place
+fn read_range(words: &[u32], at: usize) -> Result<usize, Refusal>
     ensures { result ≡ range_at words.now at }
 {
     if word_reader::left_from(words, at) < 3 {
@@ -83,31 +83,31 @@ fn read_range(words: &[u32], at: usize) -> Place
     if MAX_TARGET < target {
         return word_reader::field(at + 2);
     }
-    Place::Next(at + 3)
+    Ok(at + 3)
 }
 
 // `count` wide ranges from `at`.
-fn ranges(words: &[u32], count: u32, at: usize) -> Place
+fn ranges(words: &[u32], count: u32, at: usize) -> Result<usize, Refusal>
     ensures { result ≡ many (range_at words.now) count at }
 {
     let mut left = count;
     let mut here = at;
     while 0 < left {
         match read_range(words, here) {
-            Place::Next(p) => {
+            Ok(p) => {
                 here = p;
                 left -= 1;
             }
-            Place::Refused(r) => {
-                return Place::Refused(r);
+            Err(r) => {
+                return Err(r);
             }
         }
     }
-    Place::Next(here)
+    Ok(here)
 }
 
 // A wide row: length, then its ranges.
-pub fn read_wide_row(words: &[u32], at: usize) -> Place
+pub fn read_wide_row(words: &[u32], at: usize) -> Result<usize, Refusal>
     ensures { result ≡ wide_at words.now at }
 {
     if words.len() <= at {
@@ -117,37 +117,37 @@ pub fn read_wide_row(words: &[u32], at: usize) -> Place
 }
 
 // Three words: an action, or a range of an escape row.
-fn read_triple(words: &[u32], at: usize) -> Place
+fn read_triple(words: &[u32], at: usize) -> Result<usize, Refusal>
     ensures { result ≡ triple_at words.now at }
 {
     if word_reader::left_from(words, at) < 3 {
         return word_reader::short(words);
     }
-    Place::Next(at + 3)
+    Ok(at + 3)
 }
 
 // `count` triples from `at`.
-fn triples(words: &[u32], count: u32, at: usize) -> Place
+fn triples(words: &[u32], count: u32, at: usize) -> Result<usize, Refusal>
     ensures { result ≡ many (triple_at words.now) count at }
 {
     let mut left = count;
     let mut here = at;
     while 0 < left {
         match read_triple(words, here) {
-            Place::Next(p) => {
+            Ok(p) => {
                 here = p;
                 left -= 1;
             }
-            Place::Refused(r) => {
-                return Place::Refused(r);
+            Err(r) => {
+                return Err(r);
             }
         }
     }
-    Place::Next(here)
+    Ok(here)
 }
 
 // An accept: rule, consumed-EOF flag, action count, actions.
-pub fn read_accept(words: &[u32], at: usize) -> Place
+pub fn read_accept(words: &[u32], at: usize) -> Result<usize, Refusal>
     ensures { result ≡ accept_at words.now at }
 {
     if word_reader::left_from(words, at) < 3 {
@@ -157,7 +157,7 @@ pub fn read_accept(words: &[u32], at: usize) -> Place
 }
 
 // An escape row: EOF continuation or NONE, length, then its ranges.
-pub fn read_escape_row(words: &[u32], at: usize) -> Place
+pub fn read_escape_row(words: &[u32], at: usize) -> Result<usize, Refusal>
     ensures { result ≡ escape_at words.now at }
 {
     if word_reader::left_from(words, at) < 2 {
@@ -167,7 +167,7 @@ pub fn read_escape_row(words: &[u32], at: usize) -> Place
 }
 
 // A config: state, alternative rule or NONE, two flags, context, action count, actions.
-pub fn read_config(words: &[u32], at: usize) -> Place
+pub fn read_config(words: &[u32], at: usize) -> Result<usize, Refusal>
     ensures { result ≡ config_at words.now at }
 {
     if word_reader::left_from(words, at) < 6 {
@@ -177,7 +177,7 @@ pub fn read_config(words: &[u32], at: usize) -> Place
 }
 
 // A context: kind and two words, of which all three are read before the kind is judged.
-fn read_context(words: &[u32], at: usize) -> Place
+fn read_context(words: &[u32], at: usize) -> Result<usize, Refusal>
     ensures { result ≡ context_at words.now at }
 {
     if word_reader::left_from(words, at) < 3 {
@@ -186,31 +186,31 @@ fn read_context(words: &[u32], at: usize) -> Place
     if 1 < words[at] {
         return word_reader::field(at);
     }
-    Place::Next(at + 3)
+    Ok(at + 3)
 }
 
 // `count` contexts from `at`.
-fn contexts(words: &[u32], count: u32, at: usize) -> Place
+fn contexts(words: &[u32], count: u32, at: usize) -> Result<usize, Refusal>
     ensures { result ≡ many (context_at words.now) count at }
 {
     let mut left = count;
     let mut here = at;
     while 0 < left {
         match read_context(words, here) {
-            Place::Next(p) => {
+            Ok(p) => {
                 here = p;
                 left -= 1;
             }
-            Place::Refused(r) => {
-                return Place::Refused(r);
+            Err(r) => {
+                return Err(r);
             }
         }
     }
-    Place::Next(here)
+    Ok(here)
 }
 
 // The contexts of a continuation, whose count stands at `at`.
-fn read_contexts(words: &[u32], at: usize) -> Place
+fn read_contexts(words: &[u32], at: usize) -> Result<usize, Refusal>
     ensures { result ≡ section context_at words.now at }
 {
     if words.len() <= at {
@@ -220,27 +220,27 @@ fn read_contexts(words: &[u32], at: usize) -> Place
 }
 
 // `count` configs from `at`.
-fn configs(words: &[u32], count: u32, at: usize) -> Place
+fn configs(words: &[u32], count: u32, at: usize) -> Result<usize, Refusal>
     ensures { result ≡ many (config_at words.now) count at }
 {
     let mut left = count;
     let mut here = at;
     while 0 < left {
         match read_config(words, here) {
-            Place::Next(p) => {
+            Ok(p) => {
                 here = p;
                 left -= 1;
             }
-            Place::Refused(r) => {
-                return Place::Refused(r);
+            Err(r) => {
+                return Err(r);
             }
         }
     }
-    Place::Next(here)
+    Ok(here)
 }
 
 // The configs of a continuation, whose count stands at `at`.
-fn read_configs(words: &[u32], at: usize) -> Place
+fn read_configs(words: &[u32], at: usize) -> Result<usize, Refusal>
     ensures { result ≡ section config_at words.now at }
 {
     if words.len() <= at {
@@ -250,11 +250,11 @@ fn read_configs(words: &[u32], at: usize) -> Place
 }
 
 // A continuation: its contexts, and its configs behind them.
-pub fn read_continuation(words: &[u32], at: usize) -> Place
+pub fn read_continuation(words: &[u32], at: usize) -> Result<usize, Refusal>
     ensures { result ≡ continuation_at words.now at }
 {
     match read_contexts(words, at) {
-        Place::Next(p) => read_configs(words, p),
-        Place::Refused(r) => Place::Refused(r),
+        Ok(p) => read_configs(words, p),
+        Err(r) => Err(r),
     }
 }

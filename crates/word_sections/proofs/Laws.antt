@@ -4,7 +4,7 @@ use mathlib.Core.Path.{◌≡◌}
 use mathlib.Core.List.{List}
 use borrow.Author.Rules.{rules}
 use lib.ListN.{length}
-use Rattle.word_reader.specs.declared.Place.{Place}
+use Rattle.word_reader.specs.Parse.{Place}
 use Rattle.word_reader.proofs.Bounds.{Within, mode_in_lem, state_in, run_in_lem, ascii_in_lem, wide_in_lem, accept_in, escape_in_lem, continuation_in}
 use Rattle.word_sections.specs.declared.Kind.{Kind}
 use Rattle.word_sections.specs.declared.Kind.TheVariants.{Mode, State, AsciiRun, AsciiRow, WideRow, Accept, EscapeRow, Continuation}

@@ -1,6 +1,6 @@
 -- The record of each kind (document 01, "Words of a table", 2 to 9). Assumes nothing.
 use Rattle.std.specs.Prelude.{ℕ, List}
-use Rattle.word_reader.specs.declared.Place.{Place}
+use Rattle.word_reader.specs.Parse.{Place}
 use Rattle.word_reader.specs.Records.{mode_at, state_at, run_at, ascii_at, wide_at, accept_at, escape_at, continuation_at}
 use Rattle.word_sections.specs.declared.Kind.{Kind}
 use Rattle.word_sections.specs.declared.Kind.TheVariants.{Mode, State, AsciiRun, AsciiRow, WideRow, Accept, EscapeRow, Continuation}

@@ -5,7 +5,7 @@ ghost use Rattle.std.specs.Prelude.{◌≡◌};
 ghost use Rattle.word_reader.specs.Parse.{many, section};
 ghost use Rattle.word_sections.specs.Kinds.{record_at};
 
-use word_reader::Place;
+use refusal::Refusal;
 
 // The kinds of records, in the order of their sections.
 #[derive(Clone, Copy)]
@@ -21,7 +21,7 @@ pub enum Kind {
 }
 
 // Where the record at `at` ends.
-pub fn read_record(kind: Kind, words: &[u32], at: usize) -> Place
+pub fn read_record(kind: Kind, words: &[u32], at: usize) -> Result<usize, Refusal>
     ensures { result ≡ record_at kind words.now at }
 {
     match kind {
@@ -37,27 +37,27 @@ pub fn read_record(kind: Kind, words: &[u32], at: usize) -> Place
 }
 
 // `count` records from `at`.
-fn read_records(kind: Kind, words: &[u32], count: u32, at: usize) -> Place
+fn read_records(kind: Kind, words: &[u32], count: u32, at: usize) -> Result<usize, Refusal>
     ensures { result ≡ many (record_at kind words.now) count at }
 {
     let mut left = count;
     let mut here = at;
     while 0 < left {
         match read_record(kind, words, here) {
-            Place::Next(p) => {
+            Ok(p) => {
                 here = p;
                 left -= 1;
             }
-            Place::Refused(r) => {
-                return Place::Refused(r);
+            Err(r) => {
+                return Err(r);
             }
         }
     }
-    Place::Next(here)
+    Ok(here)
 }
 
 // The section of a kind, whose count stands at `at`.
-pub fn read_section(kind: Kind, words: &[u32], at: usize) -> Place
+pub fn read_section(kind: Kind, words: &[u32], at: usize) -> Result<usize, Refusal>
     ensures { result ≡ section (record_at kind) words.now at }
 {
     if words.len() <= at {

@@ -8,33 +8,31 @@ use lib.Dec.{ltb}
 use lib.ListN.{length}
 use borrow.Author.Rules.{rules}
 use borrow.Author.Tests.{eq-eqb, ne_eqb, le-ltb, ltb-false}
+use Rattle.std.specs.Prelude.{Option, Some, None, Result, Ok}
+use Rattle.refusal.specs.declared.Refusal.{Refusal}
 use Rattle.refusal.specs.Said.{SHORT, TAG}
 use Rattle.refusal.specs.Fixed.{tag}
 use Rattle.refusal.specs.Lists.{pick}
-use Rattle.word_serialized.specs.declared.Word.{Word}
-use Rattle.word_serialized.specs.declared.Word.TheVariants.{Value, End}
-use Rattle.word_serialized.specs.declared.Opening.{Opening}
-use Rattle.word_serialized.specs.declared.Opening.TheVariants.{Modes}
 use Rattle.word_serialized.specs.Reader.{word_at, past_word}
 use Rattle.word_serialized.specs.Opened.{refused, counted, opened}
 
-pub count-there : (c : Word) (n : ℕ) {m : ℕ} → c ≡ Value m → Modes m ≡ counted c n
+pub count-there : (c : Option ℕ) (n : ℕ) {m : ℕ} → c ≡ Some m → Ok m ≡ counted c n
 unfolding counted
 count-there c n e = rw e
 
-pub count_lacking : (c : Word) (n : ℕ) → c ≡ End → refused SHORT n ≡ counted c n
+pub count_lacking : (c : Option ℕ) (n : ℕ) → c ≡ None → refused SHORT n ≡ counted c n
 unfolding counted
 count_lacking c n e = rw e
 
-pub tag-good : (g c : Word) (n : ℕ) {t : ℕ} {r : Opening} → g ≡ Value t → t ≡ tag → r ≡ counted c n → r ≡ opened g c n
+pub tag-good : (g c : Option ℕ) (n : ℕ) {t : ℕ} {r : Result ℕ Refusal} → g ≡ Some t → t ≡ tag → r ≡ counted c n → r ≡ opened g c n
 unfolding opened
 tag-good g c n e f h = h ∙ (rw (e, eq-eqb _ _ f))
 
-pub tag_other : (g c : Word) (n : ℕ) {t : ℕ} → g ≡ Value t → (t ≡ tag → ⊥) → refused TAG 0 ≡ opened g c n
+pub tag_other : (g c : Option ℕ) (n : ℕ) {t : ℕ} → g ≡ Some t → (t ≡ tag → ⊥) → refused TAG 0 ≡ opened g c n
 unfolding opened
 tag_other g c n e f = rw (e, ne_eqb _ _ f)
 
-pub tag_lacking : (g c : Word) (n : ℕ) → g ≡ End → refused SHORT n ≡ opened g c n
+pub tag_lacking : (g c : Option ℕ) (n : ℕ) → g ≡ None → refused SHORT n ≡ opened g c n
 unfolding opened
 tag_lacking g c n e = rw e
 

@@ -9,7 +9,6 @@ ghost use Rattle.word_serialized.specs.Reader.{Moves, word_at, past_word, past_r
 ghost use Rattle.word_serialized.specs.Opened.{counted, opened, opening_of};
 
 use refusal::{Refusal, SERIALIZED_TAG, SHORT, TAG};
-use word_reader::Place;
 
 // The words of a table, and where reading goes on.
 #[derive(Clone, Copy)]
@@ -18,20 +17,14 @@ pub struct SerializedReader<'a> {
     pub position: usize,
 }
 
-// The next word, or nothing at the end.
-#[derive(Clone, Copy)]
-pub enum Word {
-    Value(u32),
-    End,
-}
-
-fn word_at(words: &[u32], at: usize) -> Word
+// The word at `at`, or nothing at the end.
+fn word_at(words: &[u32], at: usize) -> Option<u32>
     ensures { result ≡ word_at words.now at }
 {
     if words.len() <= at {
-        return Word::End;
+        return None;
     }
-    Word::Value(words[at])
+    Some(words[at])
 }
 
 // Behind the word at `at`; at the end reading stays where it is.
@@ -45,12 +38,12 @@ fn past_word(words: &[u32], at: usize) -> usize
 }
 
 // Behind the record that was read; where it was refused reading stays at its front.
-fn past_record(place: Place, at: usize) -> usize
+fn past_record(place: Result<usize, Refusal>, at: usize) -> usize
     ensures { result ≡ past_record place at }
 {
     match place {
-        Place::Next(p) => p,
-        Place::Refused(r) => at,
+        Ok(p) => p,
+        Err(r) => at,
     }
 }
 
@@ -63,7 +56,7 @@ pub fn new<'a>(data: &'a [u32]) -> SerializedReader<'a>
 
 impl<'a> SerializedReader<'a> {
     // The next word, or nothing at the end.
-    pub fn next<'s>(&'s mut self) -> Word
+    pub fn next<'s>(&'s mut self) -> Option<u32>
         ensures { Moves word_at past_word self.old result self.new }
     {
         let word = word_at(self.data, self.position);
@@ -72,7 +65,7 @@ impl<'a> SerializedReader<'a> {
     }
 
     // A state's words.
-    pub fn read_state<'s>(&'s mut self) -> Place
+    pub fn read_state<'s>(&'s mut self) -> Result<usize, Refusal>
         ensures { Moves state_at past_state self.old result self.new }
     {
         let place = word_records::read_state(self.data, self.position);
@@ -81,20 +74,13 @@ impl<'a> SerializedReader<'a> {
     }
 }
 
-// How many modes a table has, or why the words do not begin one.
-#[derive(Clone, Copy)]
-pub enum Opening {
-    Modes(u32),
-    Refused(Refusal),
-}
-
 // The count of the modes, if it is there.
-fn count_modes(count: Word, words: usize) -> Opening
+fn count_modes(count: Option<u32>, words: usize) -> Result<u32, Refusal>
     ensures { result ≡ counted count words }
 {
     match count {
-        Word::Value(n) => Opening::Modes(n),
-        Word::End => Opening::Refused(Refusal {
+        Some(n) => Ok(n),
+        None => Err(Refusal {
             number: SHORT,
             item: 0,
             place: words,
@@ -103,21 +89,21 @@ fn count_modes(count: Word, words: usize) -> Opening
 }
 
 // The tag is judged before the count is asked for.
-fn judge_opening(tag: Word, count: Word, words: usize) -> Opening
+fn judge_opening(tag: Option<u32>, count: Option<u32>, words: usize) -> Result<u32, Refusal>
     ensures { result ≡ opened tag count words }
 {
     match tag {
-        Word::Value(t) => {
+        Some(t) => {
             if t == SERIALIZED_TAG {
                 return count_modes(count, words);
             }
-            Opening::Refused(Refusal {
+            Err(Refusal {
                 number: TAG,
                 item: 0,
                 place: 0,
             })
         }
-        Word::End => Opening::Refused(Refusal {
+        None => Err(Refusal {
             number: SHORT,
             item: 0,
             place: words,
@@ -126,7 +112,7 @@ fn judge_opening(tag: Word, count: Word, words: usize) -> Opening
 }
 
 // The tag, and how many modes there are.
-pub fn read_opening(data: &[u32]) -> Opening
+pub fn read_opening(data: &[u32]) -> Result<u32, Refusal>
     ensures { result ≡ opening_of «data».now }
 {
     let mut reader = new(data);

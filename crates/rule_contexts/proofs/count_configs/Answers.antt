@@ -28,8 +28,8 @@ returns-else-config_passes c = search counting
 pub enum_told-1 : goal.enum_told-1
 enum_told-1 c = search counting
 
-pub returns-in-Refused : goal.returns-in-Refused
-returns-in-Refused c = search counting
+pub returns-in-Err : goal.returns-in-Err
+returns-in-Err c = search counting
 
 pub returns : goal.returns
 returns c = search counting

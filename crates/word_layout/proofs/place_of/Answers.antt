@@ -8,8 +8,8 @@ enum_known-at c = search chain
 pub enum_told-1 : goal.enum_told-1
 enum_told-1 c = search chain
 
-pub returns-in-Next : goal.returns-in-Next
-returns-in-Next c = search chain
+pub returns-in-Ok : goal.returns-in-Ok
+returns-in-Ok c = search chain
 
-pub returns-in-Refused : goal.returns-in-Refused
-returns-in-Refused c = search chain
+pub returns-in-Err : goal.returns-in-Err
+returns-in-Err c = search chain

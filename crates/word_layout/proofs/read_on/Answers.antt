@@ -8,11 +8,11 @@ enum_known-at c = search chain
 pub read_section-requires : goal.read_section-requires
 read_section-requires c = search chain
 
-pub enum_known-at-in-Refused-1 : goal.enum_known-at-in-Refused-1
-enum_known-at-in-Refused-1 c = search chain
+pub enum_known-at-in-Err-1 : goal.enum_known-at-in-Err-1
+enum_known-at-in-Err-1 c = search chain
 
-pub returns-in-Next : goal.returns-in-Next
-returns-in-Next c = search chain
+pub returns-in-Ok : goal.returns-in-Ok
+returns-in-Ok c = search chain
 
-pub returns-in-Refused : goal.returns-in-Refused
-returns-in-Refused c = search chain
+pub returns-in-Err : goal.returns-in-Err
+returns-in-Err c = search chain

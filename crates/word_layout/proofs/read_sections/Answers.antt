@@ -38,8 +38,8 @@ at_end-requires c = search sections
 pub enum_known-r : goal.enum_known-r
 enum_known-r c = search sections
 
-pub returns-in-Next : goal.returns-in-Next
-returns-in-Next c = search sections
+pub returns-in-Ok : goal.returns-in-Ok
+returns-in-Ok c = search sections
 
-pub returns-in-Refused : goal.returns-in-Refused
-returns-in-Refused c = search sections
+pub returns-in-Err : goal.returns-in-Err
+returns-in-Err c = search sections

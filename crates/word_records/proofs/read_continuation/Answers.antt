@@ -14,8 +14,8 @@ read_configs-requires c = search joining
 pub enum_known-r : goal.enum_known-r
 enum_known-r c = search joining
 
-pub returns-in-Next : goal.returns-in-Next
-returns-in-Next c = search joining
+pub returns-in-Ok : goal.returns-in-Ok
+returns-in-Ok c = search joining
 
-pub returns-in-Refused : goal.returns-in-Refused
-returns-in-Refused c = search joining
+pub returns-in-Err : goal.returns-in-Err
+returns-in-Err c = search joining

@@ -22,8 +22,8 @@ loop-left-preserved c = search loop
 pub enum_known-r : goal.enum_known-r
 enum_known-r c = search loop
 
-pub returns-in-Refused : goal.returns-in-Refused
-returns-in-Refused c = search loop
+pub returns-in-Err : goal.returns-in-Err
+returns-in-Err c = search loop
 
 pub returns : goal.returns
 returns c = search loop

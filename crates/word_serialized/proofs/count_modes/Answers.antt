@@ -2,8 +2,8 @@
 use Rattle.word_serialized.proofs.Laws.{judging}
 use Rattle.word_serialized.proofs.count_modes.Goals as goal
 
-pub returns-in-Value : goal.returns-in-Value
-returns-in-Value c = search judging
+pub returns-in-Some : goal.returns-in-Some
+returns-in-Some c = search judging
 
-pub returns-in-End : goal.returns-in-End
-returns-in-End c = search judging
+pub returns-in-None : goal.returns-in-None
+returns-in-None c = search judging

@@ -8,5 +8,5 @@ returns-then-t-eq-SERIALIZED_TAG c = search judging
 pub returns-else-t-eq-SERIALIZED_TAG : goal.returns-else-t-eq-SERIALIZED_TAG
 returns-else-t-eq-SERIALIZED_TAG c = search judging
 
-pub returns-in-End : goal.returns-in-End
-returns-in-End c = search judging
+pub returns-in-None : goal.returns-in-None
+returns-in-None c = search judging
