@@ -1,15 +1,14 @@
 -- The class of the ranges of a kind-5 run (document 01, "Lookups").
-use Rattle.std.specs.Prelude.{ℕ, suc, ◌-◌, Bool, ◌&&◌, ◌||◌, List, [], ◌∷◌, ◌++◌, eqb, length, get_or}
+use Rattle.std.specs.Prelude.{ℕ, suc, ◌-◌, Bool, ◌&&◌, ◌||◌, Option, Some, None, Result, Ok, Err, List, [], ◌∷◌, ◌++◌, eqb, length, get_or}
 use Rattle.refusal.specs.Lists.{pick, some, every}
-use Rattle.refusal.specs.Said.{Said, ok, no_by, no, FIELD}
+use Rattle.refusal.specs.Said.{Said, ok, refusal_at, no_by, FIELD}
+use Rattle.refusal.specs.declared.Refusal.{Refusal}
 use Rattle.run_ranges.specs.Ranges.{listed, ranges_of_run}
 use Rattle.run_ranges.specs.declared.AsciiRange.{AsciiRange}
 use Rattle.run_ranges.specs.declared.AsciiRanges.{AsciiRanges}
 use Rattle.run_class.specs.Byte.{is_digit, is_hex_letter, is_letter, is_whitespace, is_underscore, is_quote, is_dollar, up_from}
 use Rattle.run_class.specs.declared.AsciiRangeClass.{AsciiRangeClass}
 use Rattle.run_class.specs.declared.AsciiRangeClass.TheVariants as ranges
-use Rattle.run_class.specs.declared.RangeClass.{RangeClass}
-use Rattle.run_class.specs.declared.RangeClass.TheVariants.{Class, Refused}
 
 -- the bytes of a range, from its low to its high, and those of ranges
 abbrev pub bytes_in : AsciiRange → List ℕ
@@ -45,16 +44,21 @@ class_number ranges.Number = 1
 class_number ranges.Identifier = 2
 class_number ranges.Other = 3
 
--- an answer is a class's number, or a refusal
-abbrev pub said : RangeClass → Said
-said (Class c) = ok (class_number c ∷ [])
-said (Refused r) = no_by r
-
 -- ranges that are a good list have a class; where there are none, the words are no kind-5 run: "anything else is FIELD", at place 0
-unfoldable pub ranges_said : AsciiRanges → Said
-ranges_said r = pick (eqb r.count 0) (no FIELD 0) (ok (class_number (range_class (listed r)) ∷ []))
+abbrev pub class_of_ranges : Option AsciiRanges → Result AsciiRangeClass Refusal
+class_of_ranges (Some r) = Ok (range_class (listed r))
+class_of_ranges None = Err (refusal_at FIELD 0)
 
 -- "Called alone, .. class [takes] the three words of a kind-5 run"
-unfoldable pub class_said : List ℕ → Said
-class_said words =
-    pick (eqb (length words) 3) (ranges_said (ranges_of_run (get_or words 0 0) (record { first = get_or words 1 0; second = get_or words 2 0 }))) (no FIELD 0)
+unfoldable pub class_of_words : List ℕ → Result AsciiRangeClass Refusal
+class_of_words words =
+    pick (eqb (length words) 3) (class_of_ranges (ranges_of_run (get_or words 0 0) (record { first = get_or words 1 0; second = get_or words 2 0 })))
+    (Err (refusal_at FIELD 0))
+
+-- an answer is a class's number, or a refusal
+abbrev pub said : Result AsciiRangeClass Refusal → Said
+said (Ok c) = ok (class_number c ∷ [])
+said (Err r) = no_by r
+
+abbrev pub class_said : List ℕ → Said
+class_said words = said (class_of_words words)

@@ -3,9 +3,9 @@
 #![tactic(auto)]
 
 ghost use Rattle.std.specs.Prelude.{◌≡◌};
-ghost use Rattle.run_class.specs.Byte.{byte_number, byte_class};
+ghost use Rattle.run_class.specs.Byte.{byte_class};
 ghost use Rattle.run_ranges.specs.Ranges.{listed};
-ghost use Rattle.run_class.specs.Class.{bytes_in, bytes_of, said, class_said};
+ghost use Rattle.run_class.specs.Class.{bytes_in, bytes_of, class_of_words};
 ghost use Rattle.run_class.specs.Seen.{flags, facts_of, both, seen_in, decided};
 
 use refusal::{FIELD, MAX_RANGES, Refusal};
@@ -25,8 +25,9 @@ pub enum ByteClass {
 }
 
 // A decision by the byte's value.
+#[tactic(auto, unfolding(crate::specs::Byte::byte_class))]
 pub fn class_of_byte(byte: u8) -> ByteClass
-    ensures { byte_number result ≡ byte_number (byte_class byte) }
+    ensures { result ≡ byte_class byte }
 {
     match byte {
         b'0'..=b'9' => ByteClass::Digit,
@@ -47,13 +48,6 @@ pub enum AsciiRangeClass {
     Number,
     Identifier,
     Other,
-}
-
-// The class of the ranges, or a refusal where the words hold none.
-#[derive(Clone, Copy)]
-pub enum RangeClass {
-    Class(AsciiRangeClass),
-    Refused(Refusal),
 }
 
 // What was seen of some bytes: whether one is a digit or a letter, and whether all are whitespace, of a number, of an identifier.
@@ -96,6 +90,7 @@ fn facts(class: ByteClass) -> Seen
 }
 
 // What was seen in two places, together.
+#[tactic(auto, unfolding(crate::specs::Seen::both))]
 fn both(a: Seen, b: Seen) -> Seen
     ensures { result ≡ both a b }
 {
@@ -124,21 +119,16 @@ fn see_range(seen: Seen, range: AsciiRange) -> Seen
 fn see_ranges(ranges: AsciiRanges) -> Seen
     ensures { result ≡ seen_in (bytes_of (listed ranges)) }
 {
-    let rs = ranges.ranges;
-    let count = ranges.count as usize;
+    let count = usize::from(ranges.count).min(MAX_RANGES);
     let mut seen = flags(false, false, true, true, true);
-    let mut i = 0;
-    while i < count {
-        if i == MAX_RANGES {
-            return seen;
-        }
-        seen = see_range(seen, rs[i]);
-        i += 1;
+    for range in &ranges.ranges[..count] {
+        seen = see_range(seen, *range);
     }
     seen
 }
 
 // The class by what was seen.
+#[tactic(auto, unfolding(crate::specs::Seen::decided))]
 fn decide(seen: Seen) -> AsciiRangeClass
     ensures { result ≡ decided seen }
 {
@@ -154,28 +144,25 @@ fn decide(seen: Seen) -> AsciiRangeClass
     AsciiRangeClass::Other
 }
 
+// What is said of words that are no good kind-5 run.
+const NO_RUN: Refusal = Refusal {
+    number: FIELD,
+    item: 0,
+    place: 0,
+};
+
 // Anything but the three words of a good kind-5 run is FIELD at place 0.
-pub fn class(words: &[u32]) -> RangeClass
-    ensures { said result ≡ class_said words.now }
+#[tactic(auto, unfolding(crate::specs::Class::class_of_words, crate::specs::Class::class_of, crate::specs::Seen::seen_in, crate::specs::Seen::decided))]
+pub fn class(words: &[u32]) -> Result<AsciiRangeClass, Refusal>
+    ensures { result ≡ class_of_words words.now }
 {
-    if words.len() != 3 {
-        return RangeClass::Refused(Refusal {
-            number: FIELD,
-            item: 0,
-            place: 0,
-        });
-    }
-    let packed = PackedRanges {
-        first: words[1],
-        second: words[2],
+    let [kind, first, second] = words else {
+        return Err(NO_RUN);
     };
-    let ranges = run_ranges::from_run(words[0], packed);
-    if ranges.count == 0 {
-        return RangeClass::Refused(Refusal {
-            number: FIELD,
-            item: 0,
-            place: 0,
-        });
-    }
-    RangeClass::Class(decide(see_ranges(ranges)))
+    let packed = PackedRanges {
+        first: *first,
+        second: *second,
+    };
+    let ranges = run_ranges::from_run(*kind, packed).ok_or(NO_RUN)?;
+    Ok(decide(see_ranges(ranges)))
 }

@@ -16,13 +16,10 @@ use Rattle.run_ranges.specs.Ranges.{loops_at, exits_at, ranges_from, outside, up
 use Rattle.run_ranges.proofs.Maximal.{passing, passing_in_lem, passing_behind, ranges_hold}
 use Rattle.run_shape.specs.declared.AsciiRun.{AsciiRun}
 use Rattle.run_shape.specs.declared.AsciiRun.TheVariants.{None}
-use Rattle.run_shape.specs.declared.Run.{Run}
-use Rattle.run_shape.specs.declared.Answered.TheVariants.{Ran}
-use Rattle.run_shape.specs.declared.RunAnswer.{RunAnswer}
-use Rattle.run_shape.specs.Shape.{Shape, none, any, until, ranges, shape, held, run, refused, Gives}
+use Rattle.std.specs.Prelude.{Ok}
+use Rattle.run_shape.specs.Shape.{Shape, none, any, until, ranges, shape, held, refused}
 use Rattle.run_shape.specs.Classify.{exits_from, by_ranges, by_exits, classification, classified}
-use Rattle.run_shape.specs.Scan.{stops, stops_high, skipped, skipped_said, scan_said}
-use Rattle.run_shape.proofs.Answers.{given}
+use Rattle.run_shape.specs.Scan.{stops, stops_high, skipped, skipped_said, scan_of, scan_said}
 
 -- The exits of a row.
 
@@ -137,7 +134,7 @@ classification_high state row l b h =
 
 -- where there is a run, the scan says how far it went
 pub run_said : (s : Shape) (bs : List ℕ) → (s ≡ none → ⊥) → scan_said s bs ≡ skipped_said (skipped s bs) bs
-unfolding scan_said
+unfolding scan_of
 run_said none bs n = absurd (n refl)
 run_said any bs n = refl
 run_said (until es) bs n = refl
@@ -164,26 +161,21 @@ classification-held state row =
     let rs = ranges_from state 0 row in
     by_shape es rs (λ s. shape (held s) ≡ s) (λ h. refl) (held_until es) (λ h. ap ranges (held_ranges rs h)) refl
 
--- Of what classification answers: where that is a run of kind k, the row has 128 targets, and the run is the row's.
-module _ (state : ℕ) (row : List ℕ) (r : RunAnswer) (k : AsciiRun) (g : Gives r (classified state row)) (e : r.answer ≡ Ran k) where
-  pub ran_row : (length row ≡ 128) × (record { kind = k; ranges = r.ranges } ≡ held (classification state row))
+-- Of what classification answers: where that is a run, the row has 128 targets, and the run is the row's.
+module _ (state : ℕ) (row : List ℕ) (k : AsciiRun) (e : Ok k ≡ classified state row) where
+  pub ran_row : (length row ≡ 128) × (k ≡ held (classification state row))
   unfolding classified
-  ran_row = cases (eqb (length row) 128) refl g where
-    cases : (t : Bool) → eqb (length row) 128 ≡ t → Gives r (pick t (run (held (classification state row))) (refused FIELD 0)) →
-        (length row ≡ 128) × (record { kind = k; ranges = r.ranges } ≡ held (classification state row))
-    cases true w h =
-        let f = given (run (held (classification state row))) h in
-        let i : k ≡ (held (classification state row)).kind = cc in
-        let j : r.ranges ≡ (held (classification state row)).ranges = cc in
-        (eqb-true (length row) 128 w, λ d. record { kind = i d; ranges = j d })
+  ran_row = cases (eqb (length row) 128) refl e where
+    cases : (t : Bool) → eqb (length row) 128 ≡ t → Ok k ≡ pick t (Ok (held (classification state row))) (refused FIELD 0) →
+        (length row ≡ 128) × (k ≡ held (classification state row))
+    cases true w h = (eqb-true (length row) 128 w, cc)
     cases false w h =
-        let f = given (refused FIELD 0) h in
         let z : ◌≡◌ {A = ℕ} 0 1 = cc in
         absurd (omega arith)
 
-  pub ran_shape : shape (record { kind = k; ranges = r.ranges }) ≡ classification state row
+  pub ran_shape : shape k ≡ classification state row
   ran_shape = ap shape ran_row.1 ∙ classification-held state row
 
   pub ran_some : (k ≡ None → ⊥) → classification state row ≡ none → ⊥
   unfolding held
-  ran_some n z = n (ap (λ (x : Run). x.kind) (ran_row.1 ∙ ap held z))
+  ran_some n z = n (ran_row.1 ∙ ap held z)

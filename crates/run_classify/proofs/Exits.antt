@@ -13,11 +13,11 @@ use Rattle.refusal.specs.Said.{FIELD}
 use Rattle.refusal.specs.Lists.{before}
 use Rattle.refusal.proofs.Lists.{before-next, before_here, search_first}
 use Rattle.run_ranges.specs.Ranges.{exits_at, ranges_from, loop_ranges}
+use Rattle.std.specs.Prelude.{Ok}
+use Rattle.run_shape.specs.declared.AsciiRun.{AsciiRun}
 use Rattle.run_shape.specs.declared.AsciiRun.TheVariants.{Any, Until1, Until2, Until3}
-use Rattle.run_shape.specs.declared.RunAnswer.{RunAnswer}
-use Rattle.run_shape.specs.Shape.{plain, held, run, refused, answered, Gives}
+use Rattle.run_shape.specs.Shape.{held, refused}
 use Rattle.run_shape.specs.Classify.{exits_from, by_ranges, by_exits, classified}
-use Rattle.run_shape.proofs.Answers.{gives}
 
 module _ (state : ℕ) where
   exits_nil : (k : ℕ) → exits_from state k [] ≡ []
@@ -55,49 +55,48 @@ three : (state : ℕ) (row : List ℕ) {a b c : ℕ} → a ≡ 0 + before (exits
     c ≡ b + 1 + before (exits_at state) (drop (b + 1) row) → c < length row → exits_from state 0 row ≡ a ∷ b ∷ c ∷ exits_from state (c + 1) (drop (c + 1) row)
 three state row {a} {b} ea la eb lb ec lc = exits_next state row 0 ea la ∙ (rw (exits_next state row (a + 1) eb lb, exits_next state row (b + 1) ec lc))
 
--- What the code answers once it has found up to four exits. `r` is its answer.
-module _ (state : ℕ) (row : List ℕ) {r : RunAnswer} where
-  by_exits_lem : (es : List ℕ) → length row ≡ 128 → exits_from state 0 row ≡ es → r ≡ answered (run (held (by_exits es (ranges_from state 0 row))))
-      → Gives r (classified state row)
+-- What the code answers once it has found up to four exits.
+module _ (state : ℕ) (row : List ℕ) where
+  by_exits_lem : (es : List ℕ) {r : AsciiRun} → length row ≡ 128 → exits_from state 0 row ≡ es → r ≡ held (by_exits es (ranges_from state 0 row))
+      → Ok r ≡ classified state row
   unfolding classified
-  by_exits_lem es w e h = gives _ (h ∙ (rw (w, e)))
+  by_exits_lem es w e h = rw (w, e, h)
 
-  pub no_row : r ≡ answered (refused FIELD 0) → (length row ≡ 128 → ⊥) → Gives r (classified state row)
+  pub no_row : (length row ≡ 128 → ⊥) → refused FIELD 0 ≡ classified state row
   unfolding classified
-  no_row h w = gives _ (h ∙ (rw (ne_eqb (length row) 128 w)))
+  no_row w = rw (ne_eqb (length row) 128 w)
 
-  pub is_any : {a : ℕ} → r ≡ answered (run (plain Any)) → length row ≡ 128 → a ≡ 0 + before (exits_at state) row → length row ≤ a
-      → Gives r (classified state row)
+  pub is_any : {a : ℕ} → length row ≡ 128 → a ≡ 0 + before (exits_at state) row → length row ≤ a → Ok Any ≡ classified state row
   unfolding by_exits held
-  is_any h w ea l = by_exits_lem [] w (exits_end state row 0 ea l) h
+  is_any w ea l = by_exits_lem [] w (exits_end state row 0 ea l) refl
 
-  pub is_until1 : {a b : ℕ} → r ≡ answered (run (plain (Until1 a))) → length row ≡ 128 → a ≡ 0 + before (exits_at state) row → a < length row →
-      b ≡ a + 1 + before (exits_at state) (drop (a + 1) row) → length row ≤ b → Gives r (classified state row)
+  pub is_until1 : {a b : ℕ} → length row ≡ 128 → a ≡ 0 + before (exits_at state) row → a < length row →
+      b ≡ a + 1 + before (exits_at state) (drop (a + 1) row) → length row ≤ b → Ok (Until1 a) ≡ classified state row
   unfolding by_exits held
-  is_until1 {a} h w ea la eb l = by_exits_lem (a ∷ []) w (exits_next state row 0 ea la ∙ (rw (exits_end state row (a + 1) eb l))) h
+  is_until1 {a} w ea la eb l = by_exits_lem (a ∷ []) w (exits_next state row 0 ea la ∙ (rw (exits_end state row (a + 1) eb l))) refl
 
-  pub is_until2 : {a b c : ℕ} → r ≡ answered (run (plain (Until2 a b))) → length row ≡ 128 → a ≡ 0 + before (exits_at state) row → a < length row →
+  pub is_until2 : {a b c : ℕ} → length row ≡ 128 → a ≡ 0 + before (exits_at state) row → a < length row →
       b ≡ a + 1 + before (exits_at state) (drop (a + 1) row) → b < length row → c ≡ b + 1 + before (exits_at state) (drop (b + 1) row) → length row ≤ c →
-      Gives r (classified state row)
+      Ok (Until2 a b) ≡ classified state row
   unfolding by_exits held
-  is_until2 {a} {b} h w ea la eb lb ec l =
-      by_exits_lem (a ∷ b ∷ []) w (exits_next state row 0 ea la ∙ (rw (exits_next state row (a + 1) eb lb, exits_end state row (b + 1) ec l))) h
+  is_until2 {a} {b} w ea la eb lb ec l =
+      by_exits_lem (a ∷ b ∷ []) w (exits_next state row 0 ea la ∙ (rw (exits_next state row (a + 1) eb lb, exits_end state row (b + 1) ec l))) refl
 
-  pub is_until3 : {a b c d : ℕ} → r ≡ answered (run (plain (Until3 a b c))) → length row ≡ 128 → a ≡ 0 + before (exits_at state) row → a < length row →
+  pub is_until3 : {a b c d : ℕ} → length row ≡ 128 → a ≡ 0 + before (exits_at state) row → a < length row →
       b ≡ a + 1 + before (exits_at state) (drop (a + 1) row) → b < length row → c ≡ b + 1 + before (exits_at state) (drop (b + 1) row) → c < length row →
-      d ≡ c + 1 + before (exits_at state) (drop (c + 1) row) → length row ≤ d → Gives r (classified state row)
+      d ≡ c + 1 + before (exits_at state) (drop (c + 1) row) → length row ≤ d → Ok (Until3 a b c) ≡ classified state row
   unfolding by_exits held
-  is_until3 {a} {b} {c} h w ea la eb lb ec lc ed l = by_exits_lem (a ∷ b ∷ c ∷ []) w (three state row ea la eb lb ec lc ∙ (rw (exits_end state row (c + 1) ed l))) h
+  is_until3 {a} {b} {c} w ea la eb lb ec lc ed l = by_exits_lem (a ∷ b ∷ c ∷ []) w (three state row ea la eb lb ec lc ∙ (rw (exits_end state row (c + 1) ed l))) refl
 
-  pub is_ranges : {a b c d : ℕ} → r ≡ answered (run (held (by_ranges (loop_ranges state row)))) → length row ≡ 128 →
+  pub is_ranges : {a b c d : ℕ} {r : AsciiRun} → r ≡ held (by_ranges (loop_ranges state row)) → length row ≡ 128 →
       a ≡ 0 + before (exits_at state) row → a < length row →
       b ≡ a + 1 + before (exits_at state) (drop (a + 1) row) → b < length row → c ≡ b + 1 + before (exits_at state) (drop (b + 1) row) → c < length row →
-      d ≡ c + 1 + before (exits_at state) (drop (c + 1) row) → d < length row → Gives r (classified state row)
+      d ≡ c + 1 + before (exits_at state) (drop (c + 1) row) → d < length row → Ok r ≡ classified state row
   unfolding by_exits loop_ranges
-  is_ranges {a} {b} {c} {d} h w ea la eb lb ec lc ed l =
+  is_ranges {a} {b} {c} {d} {r} h w ea la eb lb ec lc ed l =
       let es = exits_from state (d + 1) (drop (d + 1) row) in
       let n = suc (suc (suc (suc (length es)))) in
-      let k : r ≡ answered (run (held (by_ranges (ranges_from state 0 row)))) = rw (eq-eqb (length row) 128 w) at h in
+      let k : r ≡ held (by_ranges (ranges_from state 0 row)) = rw (eq-eqb (length row) 128 w) at h in
       let z : n ≡ 0 → ⊥ = λ e. omega arith in
       by_exits_lem (a ∷ b ∷ c ∷ d ∷ es) w (three state row ea la eb lb ec lc ∙ (rw (exits_next state row (c + 1) ed l)))
       (k ∙ (rw (ne_eqb n 0 z, lt-leb n 3 (omega arith))))

@@ -4,7 +4,7 @@ use native.Mathlib.Nat.{add-zero}
 use native.Mathlib.Numerals.{add-one}
 use native.Mathlib.Omega.{arith}
 use mathlib.Core.Path.{◌≡◌, refl, ap, sym, ◌∙◌}
-use mathlib.Core.Bool.{Bool, true, false, not}
+use mathlib.Core.Bool.{Bool, true, false, not, and-false}
 use mathlib.Core.List.{List, [], ◌∷◌, ◌++◌, append_assoc, append-nil}
 use lib.Dec.{eqb}
 use lib.ListN.{length, take, drop, set, replicate, length-append, length-set, length-drop, drop_of_length-le, take-append-drop}
@@ -16,8 +16,8 @@ use mir.Syntax.{w8}
 use Rattle.refusal.specs.Lists.{pick, before}
 use Rattle.refusal.proofs.Lists.{before_≤, before_pass, before-true, before-false, before-next, before_here, search_first}
 use Rattle.run_ranges.specs.declared.AsciiRange.{AsciiRange}
-use Rattle.run_ranges.specs.declared.AsciiRanges.{AsciiRanges}
-use Rattle.run_ranges.specs.Ranges.{range, loops_at, exits_at, joined, ranges_from, no_ranges, up_to_four, loop_ranges}
+use Rattle.std.specs.Prelude.{Some, None}
+use Rattle.run_ranges.specs.Ranges.{range, loops_at, exits_at, joined, ranges_from, up_to_four, one_to_four, loop_ranges}
 
 -- no range starts below k
 abbrev pub StartsFrom : ℕ → List AsciiRange → Type 0
@@ -130,10 +130,16 @@ module _ (state : ℕ) (row : List ℕ) where
     all_found : length row ≤ low → take count ranges ≡ ranges_from state 0 row
     all_found h = let f = g.found in simp (drop_of_length-le row h, ranges_none, append-nil) at f
 
-    pub done : length row ≤ low → record { ranges = ranges; count = count } ≡ up_to_four (loop_ranges state row)
-    unfolding up_to_four loop_ranges
-    done h = let n : length (take count ranges) ≡ count = length-take-le count ranges (omega (arith, g.few, g.long)) in
-        rw (g.whole, ← all_found h, n, le-leb count 4 g.few, ← g.clear, take-append-drop)
+    pub done : length row ≤ low → (count ≡ 0 → ⊥) → Some (record { ranges = ranges; count = count }) ≡ one_to_four (loop_ranges state row)
+    unfolding one_to_four up_to_four loop_ranges
+    done h z = let n : length (take count ranges) ≡ count = length-take-le count ranges (omega (arith, g.few, g.long)) in
+        let one : 1 ≤ count = omega arith in
+        rw (g.whole, ← all_found h, n, le-leb 1 count one, le-leb count 4 g.few, ← g.clear, take-append-drop)
+
+    -- there are none
+    pub empty : length row ≤ low → count ≡ 0 → None ≡ one_to_four (loop_ranges state row)
+    unfolding one_to_four loop_ranges
+    empty h z = rw (g.whole, ← all_found h, z)
 
     -- the symbol at `low` loops, so that a range of one symbol at least starts there
     pub longer : (h : low < length row) → before (exits_at state) (drop low row) ≡ suc (before (exits_at state) (drop (low + 1) row))
@@ -149,14 +155,14 @@ module _ (state : ℕ) (row : List ℕ) where
         ranges_take state low n (drop low row) (longer h) ∙ (rw (drop-drop (suc n) low row, z, y))
 
     -- a fifth range: there are too many
-    pub full : {r : AsciiRanges} → r ≡ no_ranges → low < length row → count ≡ 4 → r ≡ up_to_four (loop_ranges state row)
-    unfolding up_to_four loop_ranges
-    full e h c =
+    pub full : low < length row → count ≡ 4 → None ≡ one_to_four (loop_ranges state row)
+    unfolding one_to_four loop_ranges
+    full h c =
         let n : length (take count ranges) ≡ count = length-take-le count ranges (omega (arith, g.few, g.long)) in
         let l = simp length-append at (ap length g.found) in
         let r = ap length (found-next h refl) in
         let five : 4 < length (ranges_from state 0 row) = omega arith in
-        e ∙ (rw (g.whole, lt-leb (length (ranges_from state 0 row)) 4 five))
+        rw (g.whole, lt-leb (length (ranges_from state 0 row)) 4 five, and-false)
 
     inside_end : {end : ℕ} → end ≡ low + before (exits_at state) (drop low row) → end ≤ length row
     inside_end e = omega (arith, before_≤ (exits_at state) (drop low row), length-drop low row, g.inside)
@@ -202,8 +208,8 @@ module _ (state : ℕ) (row : List ℕ) where
     place c = omega (arith, g.few)
 
 -- a row that is not 128 long
-pub no_row : (state : ℕ) (row : List ℕ) {r : AsciiRanges} → r ≡ no_ranges → (length row ≡ 128 → ⊥) → r ≡ up_to_four (loop_ranges state row)
-unfolding up_to_four loop_ranges
-no_row state row e h = e ∙ (rw (ne_eqb (length row) 128 h))
+pub no_row : (state : ℕ) (row : List ℕ) → (length row ≡ 128 → ⊥) → None ≡ one_to_four (loop_ranges state row)
+unfolding one_to_four loop_ranges
+no_row state row h = rw (ne_eqb (length row) 128 h)
 
-pub ruleset looking = (rules, start, done, full, again, onward, some_end, high_fits, low_fits, place, no_row)
+pub ruleset looking = (rules, start, done, empty, full, again, onward, some_end, high_fits, low_fits, place, no_row)

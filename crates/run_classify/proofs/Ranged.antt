@@ -1,53 +1,37 @@
 -- The run of a row with more than three exits, by its ranges. Assumes nothing.
-use Prim.Native.Nat.{◌≤◌}
-use native.Mathlib.Omega.{arith}
-use mathlib.Core.Path.{◌≡◌, refl, ap, sym, ◌∙◌}
-use mathlib.Core.Bool.{Bool, true, false, ◌&&◌, and-false}
+use mathlib.Core.Path.{◌≡◌, refl}
+use mathlib.Core.Bool.{Bool, true, false, ◌&&◌}
 use mathlib.Core.List.{List}
 use lib.Dec.{leb}
 use lib.ListN.{length}
 use borrow.Author.Rules.{rules}
-use borrow.Author.Tests.{le-leb}
+use Rattle.std.specs.Prelude.{Option, Some, None}
 use Rattle.refusal.specs.Lists.{pick}
 use Rattle.run_ranges.specs.declared.AsciiRange.{AsciiRange}
 use Rattle.run_ranges.specs.declared.AsciiRanges.{AsciiRanges}
-use Rattle.run_ranges.specs.Ranges.{up_to_four}
-use Rattle.run_shape.specs.declared.AsciiRun.TheVariants.{None, Ranges}
-use Rattle.run_shape.specs.declared.Answered.TheVariants.{Ran}
-use Rattle.run_shape.specs.declared.RunAnswer.{RunAnswer}
-use Rattle.run_shape.specs.Shape.{none, ranges, plain, held, run, answered}
+use Rattle.run_ranges.specs.Ranges.{up_to_four, one_to_four}
+use Rattle.run_shape.specs.declared.AsciiRun.{AsciiRun}
+use Rattle.run_shape.specs.declared.AsciiRun.TheVariants as runs
+use Rattle.run_shape.specs.Shape.{none, ranges, held}
 use Rattle.run_shape.specs.Classify.{by_ranges}
 
--- the ranges, or none
+-- the run of ranges, or none
+abbrev run_by : Option AsciiRanges → AsciiRun
+run_by (Some r) = runs.Ranges r
+run_by None = runs.None
+
 module _ (rs : List AsciiRange) where
-  count_few : leb (length rs) 4 ≡ true → (up_to_four rs).count ≡ length rs
-  unfolding up_to_four
-  count_few e = rw e
+  by_count : run_by (one_to_four rs) ≡ held (by_ranges rs)
+  unfolding one_to_four by_ranges held
+  by_count = cases (leb 1 (length rs) && leb (length rs) 4) where
+    cases : (t : Bool) → run_by (pick t (Some (up_to_four rs)) None) ≡ held (pick t (ranges rs) none)
+    cases true = refl
+    cases false = refl
 
-  count-many : leb (length rs) 4 ≡ false → (up_to_four rs).count ≡ 0
-  unfolding up_to_four
-  count-many e = rw e
+  pub by_some : {q : AsciiRanges} → one_to_four rs ≡ Some q → runs.Ranges q ≡ held (by_ranges rs)
+  by_some e = rw e at by_count
 
-  by_none : (up_to_four rs).count ≡ 0 → by_ranges rs ≡ none
-  unfolding by_ranges
-  by_none h = cases (leb (length rs) 4) refl where
-    cases : (b : Bool) → leb (length rs) 4 ≡ b → pick (leb 1 (length rs) && b) (ranges rs) none ≡ none
-    cases true e = let z : length rs ≡ 0 = omega (arith, count_few e) in rw z
-    cases false e = rw (and-false (leb 1 (length rs)))
+  pub by_none : one_to_four rs ≡ None → runs.None ≡ held (by_ranges rs)
+  by_none e = rw e at by_count
 
-  by_some : ((up_to_four rs).count ≡ 0 → ⊥) → by_ranges rs ≡ ranges rs
-  unfolding by_ranges
-  by_some h = cases (leb (length rs) 4) refl where
-    cases : (b : Bool) → leb (length rs) 4 ≡ b → pick (leb 1 (length rs) && b) (ranges rs) none ≡ ranges rs
-    cases true e = let z : 1 ≤ length rs = omega (arith, count_few e, h) in rw (le-leb 1 (length rs) z)
-    cases false e = absurd (h (count-many e))
-
-  pub no_ranges_lem : {q : AsciiRanges} {r : RunAnswer} → q ≡ up_to_four rs → q.count ≡ 0 → r ≡ answered (run (plain None)) → r ≡ answered (run (held (by_ranges rs)))
-  unfolding held
-  no_ranges_lem e z f = f ∙ (rw (by_none (ap (λ (x : AsciiRanges). x.count) (sym e) ∙ z)))
-
-  pub some_ranges : {q : AsciiRanges} → q ≡ up_to_four rs → (q.count ≡ 0 → ⊥) → record { answer = Ran Ranges; ranges = q } ≡ answered (run (held (by_ranges rs)))
-  unfolding held
-  some_ranges e z = rw (by_some (λ k. z (ap (λ (x : AsciiRanges). x.count) e ∙ k)), e)
-
-pub ruleset ranging = (rules, no_ranges_lem, some_ranges)
+pub ruleset ranging = (rules, by_some, by_none)

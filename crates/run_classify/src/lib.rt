@@ -4,15 +4,16 @@
 
 ghost use Rattle.std.specs.Prelude.{◌≡◌, ◌+◌, drop};
 ghost use Rattle.refusal.specs.Lists.{before};
-ghost use Rattle.run_ranges.specs.Ranges.{loops_at, exits_at, up_to_four, loop_ranges};
-ghost use Rattle.run_shape.specs.Shape.{Gives, answered, run, plain, held};
+ghost use Rattle.run_ranges.specs.Ranges.{loops_at, exits_at, one_to_four, loop_ranges};
+ghost use Rattle.run_shape.specs.Shape.{held};
 ghost use Rattle.run_shape.specs.Classify.{classified, by_ranges};
 
-use refusal::{ASCII_SYMBOLS, FIELD, MAX_RANGES};
+use refusal::{ASCII_SYMBOLS, FIELD, MAX_RANGES, Refusal};
 use run_ranges::{AsciiRange, AsciiRanges};
-use run_shape::{Answered, AsciiRun, RunAnswer};
+use run_shape::AsciiRun;
 
 // The first symbol from `from` on whose target is not the state: the row's length where there is none, or `from` past the row.
+#[tactic(auto, using(refusal::proofs::Lists::searching))]
 pub fn next_exit(row: &[u16], state: u16, from: usize) -> usize
     ensures { result ≡ from + before (exits_at state) (drop from row.now) }
 {
@@ -27,6 +28,7 @@ pub fn next_exit(row: &[u16], state: u16, from: usize) -> usize
 }
 
 // The first symbol from `from` on whose target is the state, likewise.
+#[tactic(auto, using(refusal::proofs::Lists::searching))]
 fn next_loop(row: &[u16], state: u16, from: usize) -> usize
     ensures { result ≡ from + before (loops_at state) (drop from row.now) }
 {
@@ -41,18 +43,19 @@ fn next_loop(row: &[u16], state: u16, from: usize) -> usize
 }
 
 // The maximal ranges on which the row loops on the state, if there are 1 to 4 of them.
-pub fn from_self_loops(row: &[u16], state: u16) -> AsciiRanges
-    ensures { result ≡ up_to_four (loop_ranges state row.now) }
+#[tactic(auto, using(crate::proofs::Loops::looking))]
+pub fn from_self_loops(row: &[u16], state: u16) -> Option<AsciiRanges>
+    ensures { result ≡ one_to_four (loop_ranges state row.now) }
 {
     if row.len() != ASCII_SYMBOLS {
-        return run_ranges::none();
+        return None;
     }
     let mut ranges = [AsciiRange { low: 0, high: 0 }; 4];
     let mut count = 0;
     let mut low = next_loop(row, state, 0);
     while low < row.len() {
         if count == MAX_RANGES {
-            return run_ranges::none();
+            return None;
         }
         let end = next_exit(row, state, low);
         ranges[count] = AsciiRange {
@@ -62,58 +65,49 @@ pub fn from_self_loops(row: &[u16], state: u16) -> AsciiRanges
         count += 1;
         low = next_loop(row, state, end);
     }
-    AsciiRanges {
+    if count == 0 {
+        return None;
+    }
+    Some(AsciiRanges {
         ranges,
         count: count as u8,
-    }
-}
-
-// A run that has no ranges.
-fn plain(kind: AsciiRun) -> RunAnswer
-    ensures { result ≡ answered (run (plain kind)) }
-{
-    RunAnswer {
-        answer: Answered::Ran(kind),
-        ranges: run_ranges::none(),
-    }
+    })
 }
 
 // The run of a row with more than three exits: its ranges if there are 1 to 4, else none.
-fn by_ranges(row: &[u16], state: u16) -> RunAnswer
-    ensures { result ≡ answered (run (held (by_ranges (loop_ranges state row.now)))) }
+#[tactic(auto, using(crate::proofs::Ranged::ranging))]
+fn by_ranges(row: &[u16], state: u16) -> AsciiRun
+    ensures { result ≡ held (by_ranges (loop_ranges state row.now)) }
 {
-    let ranges = from_self_loops(row, state);
-    if ranges.count == 0 {
-        return plain(AsciiRun::None);
-    }
-    RunAnswer {
-        answer: Answered::Ran(AsciiRun::Ranges),
-        ranges,
+    match from_self_loops(row, state) {
+        Some(ranges) => AsciiRun::Ranges(ranges),
+        None => AsciiRun::None,
     }
 }
 
 // The run of a row of 128 targets at a state.
-pub fn classify(row: &[u16], state: u16) -> RunAnswer
-    ensures { Gives result (classified state row.now) }
+#[tactic(auto, using(crate::proofs::Exits::classifying))]
+pub fn classify(row: &[u16], state: u16) -> Result<AsciiRun, Refusal>
+    ensures { result ≡ classified state row.now }
 {
     if row.len() != ASCII_SYMBOLS {
         return run_shape::refuse(FIELD, 0);
     }
     let a = next_exit(row, state, 0);
     if row.len() <= a {
-        return plain(AsciiRun::Any);
+        return Ok(AsciiRun::Any);
     }
     let b = next_exit(row, state, a + 1);
     if row.len() <= b {
-        return plain(AsciiRun::Until1(a as u8));
+        return Ok(AsciiRun::Until1(a as u8));
     }
     let c = next_exit(row, state, b + 1);
     if row.len() <= c {
-        return plain(AsciiRun::Until2(a as u8, b as u8));
+        return Ok(AsciiRun::Until2(a as u8, b as u8));
     }
     let d = next_exit(row, state, c + 1);
     if row.len() <= d {
-        return plain(AsciiRun::Until3(a as u8, b as u8, c as u8));
+        return Ok(AsciiRun::Until3(a as u8, b as u8, c as u8));
     }
-    by_ranges(row, state)
+    Ok(by_ranges(row, state))
 }

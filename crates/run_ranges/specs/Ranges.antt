@@ -1,5 +1,5 @@
 -- Ranges of ASCII symbols (document 01, "Words of a table", 4, and "Classification"). Assumes nothing.
-use Rattle.std.specs.Prelude.{ℕ, suc, ◌+◌, ◌-◌, ◌*◌, ◌/◌, ◌%◌, Bool, true, false, not, ◌&&◌, ◌||◌, List, [], ◌∷◌, ◌++◌, eqb, leb, length, get_or, take, drop, replicate}
+use Rattle.std.specs.Prelude.{ℕ, suc, Option, Some, None, ◌+◌, ◌-◌, ◌*◌, ◌/◌, ◌%◌, Bool, true, false, not, ◌&&◌, ◌||◌, List, [], ◌∷◌, ◌++◌, eqb, leb, length, get_or, take, drop, replicate}
 use Rattle.refusal.specs.Lists.{pick}
 use Rattle.run_ranges.specs.declared.AsciiRange.{AsciiRange}
 use Rattle.run_ranges.specs.declared.AsciiRanges.{AsciiRanges}
@@ -34,13 +34,17 @@ loop_ranges state row = pick (eqb (length row) 128) (ranges_from state 0 row) []
 
 -- How the code holds ranges: the first `count` of four places, the others 0
 
--- no ranges: the count is 0, and so is every place
+-- places that hold no range: the count is 0, and so is every place
 abbrev pub no_ranges : AsciiRanges
 no_ranges = record { ranges = replicate 4 (range 0 0); count = 0 }
 
--- up to four ranges; none where there are more
+-- up to four ranges; no range where there are more
 unfoldable pub up_to_four : List AsciiRange → AsciiRanges
 up_to_four rs = pick (leb (length rs) 4) (record { ranges = rs ++ replicate (4 - length rs) (range 0 0); count = length rs }) no_ranges
+
+-- the ranges, if there are 1 to 4 of them
+unfoldable pub one_to_four : List AsciiRange → Option AsciiRanges
+one_to_four rs = pick (leb 1 (length rs) && leb (length rs) 4) (Some (up_to_four rs)) None
 
 -- the ranges that count
 abbrev pub listed : AsciiRanges → List AsciiRange
@@ -68,8 +72,8 @@ unfoldable pub good_ranges : ℕ → List AsciiRange → Bool
 good_ranges count rs = leb 1 count && (leb count 4 && (ordered 0 (take count rs) && unused (drop count rs)))
 
 -- the ranges if they are a good list, else none
-unfoldable pub checked : ℕ → List AsciiRange → AsciiRanges
-checked count rs = pick (good_ranges count rs) (record { ranges = rs; count = count }) no_ranges
+unfoldable pub checked : ℕ → List AsciiRange → Option AsciiRanges
+checked count rs = pick (good_ranges count rs) (Some (record { ranges = rs; count = count })) None
 
 -- Packed: "two more words holding ranges as low, high bytes, least byte first", so that a half of a word holds a range
 
@@ -89,8 +93,8 @@ abbrev pub packed_of : List AsciiRange → PackedRanges
 packed_of rs = record { first = half_at rs 0 + 65536 * half_at rs 1; second = half_at rs 2 + 65536 * half_at rs 3 }
 
 -- "Kind 5: second byte the count 1 to 4, upper half 0, then two more words": its ranges, or none where the three words are no such run
-unfoldable pub ranges_of_run : ℕ → PackedRanges → AsciiRanges
-ranges_of_run kind w = pick (eqb (kind % 256) 5 && leb kind 65535) (checked (kind / 256) (unpacked w)) no_ranges
+unfoldable pub ranges_of_run : ℕ → PackedRanges → Option AsciiRanges
+ranges_of_run kind w = pick (eqb (kind % 256) 5 && leb kind 65535) (checked (kind / 256) (unpacked w)) None
 
 -- Scanned: ranges stop at a byte that is in none of them
 

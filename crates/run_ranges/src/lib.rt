@@ -1,10 +1,9 @@
 // Ranges of ASCII bytes: the type, and the two words that hold them, read and written. The ranges on which a row loops are in
-// `run_classify`, the scan by them in `run_scan`. What the Rust calls `Option<AsciiRanges>` is here an `AsciiRanges` whose count is 0
-// where there is none: a good list has 1 to 4.
+// `run_classify`, the scan by them in `run_scan`.
 #![tactic(auto)]
 
-ghost use Rattle.std.specs.Prelude.{◌≡◌, ◌≤◌, ◌<◌, drop, take};
-ghost use Rattle.run_ranges.specs.Ranges.{no_ranges, ordered, is_zero, unused, checked, range_in, unpacked, ranges_of_run, follows, half_of, packed_of};
+ghost use Rattle.std.specs.Prelude.{◌≡◌, ◌<◌};
+ghost use Rattle.run_ranges.specs.Ranges.{ordered, is_zero, unused, checked, range_in, unpacked, ranges_of_run, follows, half_of, packed_of};
 
 use refusal::MAX_RANGES;
 
@@ -29,89 +28,49 @@ pub struct PackedRanges {
     pub second: u32,
 }
 
-// No ranges: the count is 0, and so is every place.
-pub fn none() -> AsciiRanges
-    ensures { result ≡ no_ranges }
-{
-    AsciiRanges {
-        ranges: [AsciiRange { low: 0, high: 0 }; 4],
-        count: 0,
-    }
-}
-
 // Each low is at most its high, highs are at most 127, and each high + 1 is below the next low.
-fn ordered(ranges: [AsciiRange; 4], count: usize) -> bool
-    requires { count ≤ 4 }
-    ensures { result ≡ ordered 0 (take count ranges) }
+fn ordered(ranges: &[AsciiRange]) -> bool
+    ensures { result ≡ ordered 0 ranges.now }
 {
     let mut least = 0;
-    let mut i = 0;
-    while i < count {
-        let range = ranges[i];
-        if follows(range, least) {
-            least = wide(range.high) + 2;
-            i += 1;
-        } else {
+    for range in ranges {
+        if !follows(*range, least) {
             return false;
         }
+        least = u32::from(range.high) + 2;
     }
     true
-}
-
-// A byte as a number that a sum may leave.
-fn wide(byte: u8) -> u32
-    ensures { (result ≡ byte) × (result < 256) }
-{
-    byte as u32
 }
 
 // A range that may stand behind one that ends below `least` - 1.
 fn follows(range: AsciiRange, least: u32) -> bool
     ensures { result ≡ follows least range }
 {
-    (least <= wide(range.low)) & (range.low <= range.high) & (range.high <= 127)
+    (least <= u32::from(range.low)) & (range.low <= range.high) & (range.high <= 127)
 }
 
-fn is_zero(range: AsciiRange) -> bool
-    ensures { result ≡ is_zero range }
+// Places that hold no range are 0.
+fn unused(places: &[AsciiRange]) -> bool
+    ensures { result ≡ unused places.now }
 {
-    (range.low == 0) & (range.high == 0)
-}
-
-// The places from `count` on are 0.
-fn unused(ranges: [AsciiRange; 4], count: usize) -> bool
-    ensures { result ≡ unused (drop count ranges) }
-{
-    let mut i = count;
-    while i < 4 {
-        if is_zero(ranges[i]) {
-            i += 1;
-        } else {
-            return false;
-        }
-    }
-    true
+    places
+        .iter()
+        .all(|place| (place.low == 0) & (place.high == 0))
 }
 
 // The first `count` of four ranges, if they are a good list.
-fn new(count: u8, ranges: [AsciiRange; 4]) -> AsciiRanges
+#[tactic(auto, unfolding(crate::specs::Ranges::checked, crate::specs::Ranges::good_ranges))]
+fn new(count: u8, ranges: [AsciiRange; 4]) -> Option<AsciiRanges>
     ensures { result ≡ checked count ranges }
 {
-    let n = count as usize;
-    if n < 1 {
-        return none();
+    let n = usize::from(count);
+    if (n < 1) | (MAX_RANGES < n) {
+        return None;
     }
-    if MAX_RANGES < n {
-        return none();
+    if ordered(&ranges[..n]) & unused(&ranges[n..]) {
+        return Some(AsciiRanges { ranges, count });
     }
-    // One test after the other: the compiler drops the first answer before it makes the second.
-    if ordered(ranges, n) {
-        if unused(ranges, n) {
-            return AsciiRanges { ranges, count };
-        }
-        return none();
-    }
-    none()
+    None
 }
 
 // The range in the half of a word: the low byte, then the high one.
@@ -125,7 +84,7 @@ fn range_in(half: u32) -> AsciiRange
 }
 
 // The first `count` of the ranges that two words hold, if they are a good list.
-fn from_packed(count: u8, words: PackedRanges) -> AsciiRanges
+fn from_packed(count: u8, words: PackedRanges) -> Option<AsciiRanges>
     ensures { result ≡ checked count (unpacked words) }
 {
     let a = range_in(words.first % 65536);
@@ -135,15 +94,13 @@ fn from_packed(count: u8, words: PackedRanges) -> AsciiRanges
     new(count, [a, b, c, d])
 }
 
-// The ranges of the three words of a kind-5 run.
-pub fn from_run(kind: u32, words: PackedRanges) -> AsciiRanges
+// The ranges of the three words of a kind-5 run, or none where the words are no such run.
+#[tactic(auto, unfolding(crate::specs::Ranges::ranges_of_run))]
+pub fn from_run(kind: u32, words: PackedRanges) -> Option<AsciiRanges>
     ensures { result ≡ ranges_of_run kind words }
 {
-    if kind % 256 != 5 {
-        return none();
-    }
-    if 65535 < kind {
-        return none();
+    if (kind % 256 != 5) | (65535 < kind) {
+        return None;
     }
     from_packed((kind / 256) as u8, words)
 }
@@ -151,7 +108,7 @@ pub fn from_run(kind: u32, words: PackedRanges) -> AsciiRanges
 fn half_of(range: AsciiRange) -> u32
     ensures { (result ≡ half_of range) × (result < 65536) }
 {
-    range.low as u32 + 256 * (range.high as u32)
+    u32::from(range.low) + 256 * u32::from(range.high)
 }
 
 // The two words that hold the ranges.

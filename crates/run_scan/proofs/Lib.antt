@@ -1,3 +1,2 @@
 pub mod RangeScans
 pub mod Scans
-pub mod ScanSaid

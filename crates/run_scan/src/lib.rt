@@ -9,10 +9,10 @@ ghost use Rattle.std.specs.Prelude.{◌≡◌, ◌≤◌, min, length, take, [],
 ghost use Rattle.refusal.specs.Lists.{pick, before};
 ghost use Rattle.run_ranges.specs.Ranges.{in_range, outside, listed, used_if};
 ghost use Rattle.run_shape.specs.Shape.{shape, until};
-ghost use Rattle.run_shape.specs.Scan.{stops, skipped, said, is_none, skipped_said, scan_said};
+ghost use Rattle.run_shape.specs.Scan.{stops, skipped, scan_of};
 
 use run_ranges::{AsciiRange, AsciiRanges};
-use run_shape::{AsciiRun, AsciiRunScan, Run, Scanned};
+use run_shape::{AsciiRun, AsciiRunScan};
 
 fn holds(range: AsciiRange, byte: u8) -> bool
     ensures { result ≡ in_range range byte }
@@ -21,6 +21,7 @@ fn holds(range: AsciiRange, byte: u8) -> bool
 }
 
 // With no branch, so that the compiler can test many bytes at once.
+#[tactic(auto, using(crate::proofs::RangeScans::is_outside))]
 fn outside(a: AsciiRange, b: AsciiRange, c: AsciiRange, d: AsciiRange, byte: u8) -> bool
     ensures { result ≡ outside (a ∷ b ∷ c ∷ d ∷ []) byte }
 {
@@ -28,6 +29,7 @@ fn outside(a: AsciiRange, b: AsciiRange, c: AsciiRange, d: AsciiRange, byte: u8)
 }
 
 // How many bytes stand before the first that is in none of four ranges, byte by byte.
+#[tactic(auto, using(refusal::proofs::Lists::searching))]
 fn scan_bytes(a: AsciiRange, b: AsciiRange, c: AsciiRange, d: AsciiRange, input: &[u8]) -> usize
     ensures { result ≡ before (outside (a ∷ b ∷ c ∷ d ∷ [])) input.now }
 {
@@ -127,6 +129,7 @@ pub fn scan_scalar(ranges: AsciiRanges, input: &[u8]) -> usize
 }
 
 // How many bytes stand before the first a.
+#[tactic(auto, using(crate::proofs::Scans::searching_exits))]
 fn memchr(a: u8, input: &[u8]) -> usize
     ensures { result ≡ before (stops (until (a ∷ []))) input.now }
 {
@@ -141,6 +144,7 @@ fn memchr(a: u8, input: &[u8]) -> usize
 }
 
 // How many bytes stand before the first a or b.
+#[tactic(auto, using(crate::proofs::Scans::searching_exits))]
 fn memchr2(a: u8, b: u8, input: &[u8]) -> usize
     ensures { result ≡ before (stops (until (a ∷ b ∷ []))) input.now }
 {
@@ -156,6 +160,7 @@ fn memchr2(a: u8, b: u8, input: &[u8]) -> usize
 }
 
 // How many bytes stand before the first a, b or c.
+#[tactic(auto, using(crate::proofs::Scans::searching_exits))]
 fn memchr3(a: u8, b: u8, c: u8, input: &[u8]) -> usize
     ensures { result ≡ before (stops (until (a ∷ b ∷ c ∷ []))) input.now }
 {
@@ -171,57 +176,40 @@ fn memchr3(a: u8, b: u8, c: u8, input: &[u8]) -> usize
 }
 
 // How many bytes a run skips; none skips nothing.
-fn skip(run: Run, input: &[u8]) -> usize
+#[tactic(auto, using(crate::proofs::Scans::skipping))]
+fn skip(run: AsciiRun, input: &[u8]) -> usize
     ensures { result ≡ skipped (shape run) input.now }
 {
-    let kind = run.kind;
-    match kind {
+    match run {
         AsciiRun::None => 0,
         AsciiRun::Any => input.len(),
         AsciiRun::Until1(a) => memchr(a, input),
         AsciiRun::Until2(a, b) => memchr2(a, b, input),
         AsciiRun::Until3(a, b, c) => memchr3(a, b, c, input),
-        AsciiRun::Ranges => scan_scalar(run.ranges, input),
+        AsciiRun::Ranges(ranges) => scan_scalar(ranges, input),
     }
 }
 
 // The skipped run itself: the front part of the input, where the input starts.
-pub fn scan(run: Run, input: &[u8]) -> &[u8]
+#[tactic(auto, using(crate::proofs::Scans::front))]
+pub fn scan(run: AsciiRun, input: &[u8]) -> &[u8]
     ensures { (result.now ≡ take (skipped (shape run) input.now) input.now) × (result.ref_ptr ≡ input.entry.ref_ptr) }
 {
     let bytes = skip(run, input);
     &input[..bytes]
 }
 
-fn skipped_to(bytes: usize, input: &[u8]) -> Scanned
-    ensures { said result ≡ skipped_said bytes input.now }
+// The length of the skipped run, and whether an exit was found; or that there is no run.
+#[tactic(auto, unfolding(run_shape::specs::Scan::scan_of))]
+pub fn scan_length(run: AsciiRun, input: &[u8]) -> Option<AsciiRunScan>
+    ensures { result ≡ scan_of (shape run) input.now }
 {
-    Scanned::Skipped(AsciiRunScan {
+    if matches!(run, AsciiRun::None) {
+        return None;
+    }
+    let bytes = skip(run, input);
+    Some(AsciiRunScan {
         bytes,
         found_exit: bytes < input.len(),
     })
-}
-
-fn is_none(kind: AsciiRun) -> bool
-    ensures { result ≡ is_none kind }
-{
-    match kind {
-        AsciiRun::None => true,
-        AsciiRun::Any => false,
-        AsciiRun::Until1(_) => false,
-        AsciiRun::Until2(_, _) => false,
-        AsciiRun::Until3(_, _, _) => false,
-        AsciiRun::Ranges => false,
-    }
-}
-
-// The length of the skipped run, and whether an exit was found; or that there is no run.
-pub fn scan_length(run: Run, input: &[u8]) -> Scanned
-    ensures { said result ≡ scan_said (shape run) input.now }
-{
-    let kind = run.kind;
-    if is_none(kind) {
-        return Scanned::NoRun;
-    }
-    skipped_to(skip(run, input), input)
 }

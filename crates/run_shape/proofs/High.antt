@@ -1,22 +1,21 @@
 -- Where runs stop among the bytes of 128 and above: until-runs nowhere, for their exits are below 128; ranges at each, for their highs are. Assumes nothing.
-use Prim.Native.Nat.{ℕ, zero, suc, ◌+◌, ◌/◌, ◌%◌, ◌≤◌, ◌<◌}
+use Prim.Native.Nat.{ℕ, zero, suc, ◌+◌, ◌/◌, ◌%◌, ◌≤◌}
 use native.Mathlib.Omega.{arith}
-use mathlib.Core.Path.{◌≡◌, refl, ap, subst, sym}
-use mathlib.Core.Bool.{Bool, true, false, not, ◌&&◌, ◌||◌, and-false}
+use mathlib.Core.Path.{◌≡◌, refl, subst, sym}
+use mathlib.Core.Bool.{Bool, true, false, ◌&&◌, and-false}
 use mathlib.Core.List.{List, [], ◌∷◌}
+use Rattle.std.specs.Prelude.{Some, None, Ok, Err}
 use lib.Dec.{eqb, leb, ltb}
 use lib.ListN.{length, get_or, take, drop}
 use borrow.Author.Tests.{ne_eqb, lt-leb, leb-true, ltb-true}
-use Rattle.refusal.specs.Said.{SHORT, FIELD}
+use Rattle.refusal.specs.Said.{FIELD}
 use Rattle.refusal.specs.Lists.{pick, some, every}
 use Rattle.refusal.proofs.Lists.{and_split}
 use Rattle.run_ranges.specs.declared.AsciiRange.{AsciiRange}
-use Rattle.run_ranges.specs.declared.AsciiRanges.{AsciiRanges}
 use Rattle.run_ranges.specs.declared.PackedRanges.{PackedRanges}
-use Rattle.run_ranges.specs.Ranges.{follows, ordered, in_ranges, outside, no_ranges, listed, unused, good_ranges, checked, unpacked, ranges_of_run}
-use Rattle.run_shape.specs.declared.AsciiRun.TheVariants.{Ranges}
-use Rattle.run_shape.specs.declared.Run.{Run}
-use Rattle.run_shape.specs.Shape.{none, any, until, shape, held, Got, run, refused}
+use Rattle.run_ranges.specs.Ranges.{follows, ordered, in_ranges, outside, unused, good_ranges, checked, unpacked, ranges_of_run}
+use Rattle.run_shape.specs.declared.AsciiRun.{AsciiRun}
+use Rattle.run_shape.specs.Shape.{none, any, until, shape, held, Got, refused}
 use Rattle.run_shape.specs.Words.{is_ascii, is_zero, or_field, short_run, kind_of, bytes_of, ranges_run, packed_at, read_at}
 use Rattle.run_shape.specs.Scan.{stops, stops_high}
 
@@ -43,20 +42,20 @@ ordered_stop b h least (r ∷ rs) e =
 
 -- what is got stops so, if it is a run
 abbrev High : ℕ → Got → Type 0
-High b (run r) = stops (shape r) b ≡ stops_high (shape r)
-High b (refused n p) = Unit {0}
+High b (Ok r) = stops (shape r) b ≡ stops_high (shape r)
+High b (Err r) = Unit {0}
 
 either : (b : ℕ) (x y : Got) (t : Bool) → (t ≡ true → High b x) → (t ≡ false → High b y) → High b (pick t x y)
 either b x y true f g = f refl
 either b x y false f g = g refl
 
 module _ (b : ℕ) (h : 128 ≤ b) (at : ℕ) where
-  judged : (r : Run) (t : Bool) → (t ≡ true → High b (run r)) → High b (or_field at t r)
+  judged : (r : AsciiRun) (t : Bool) → (t ≡ true → High b (Ok r)) → High b (or_field at t r)
   unfolding or_field
-  judged r t f = either b (run r) (refused FIELD at) t f (λ e. tt)
+  judged r t f = either b (Ok r) (refused FIELD at) t f (λ e. tt)
 
   -- exits in front of unused bytes
-  untils : (r : Run) (es more : List ℕ) → High b (run r) ≡ (some (eqb b) es ≡ false) → High b (or_field at (every is_ascii es && every is_zero more) r)
+  untils : (r : AsciiRun) (es more : List ℕ) → High b (Ok r) ≡ (some (eqb b) es ≡ false) → High b (or_field at (every is_ascii es && every is_zero more) r)
   untils r es more i =
       judged r (every is_ascii es && every is_zero more) (λ e. subst (λ A. A) (sym i) (exits_pass b h es (and_split (every is_ascii es) (every is_zero more) e).0))
 
@@ -75,25 +74,21 @@ module _ (b : ℕ) (h : 128 ≤ b) (at : ℕ) where
 
   -- a run of ranges
   checked_high : (n : ℕ) (rs : List AsciiRange) → High b (ranges_run at (checked n rs))
-  unfolding checked good_ranges ranges_run stops
+  unfolding checked good_ranges stops
   checked_high n rs = cases (good_ranges n rs) refl
     where
-      whole : AsciiRanges
-      whole = record { ranges = rs; count = n }
-
-      cases : (t : Bool) → good_ranges n rs ≡ t → High b (ranges_run at (pick t whole no_ranges))
+      cases : (t : Bool) → good_ranges n rs ≡ t → High b (ranges_run at (pick t (Some (record { ranges = rs; count = n })) None))
       cases true e =
           let l = and_split (leb 1 n) (leb n 4 && (ordered 0 (take n rs) && unused (drop n rs))) e in
           let m = and_split (leb n 4) (ordered 0 (take n rs) && unused (drop n rs)) l.1 in
-          let good = (and_split (ordered 0 (take n rs)) (unused (drop n rs)) m.1).0 in
-          either b (refused FIELD at) (run (record { kind = Ranges; ranges = whole })) (eqb n 0) (λ i. tt) (λ i. ordered_stop b h 0 (take n rs) good)
+          ordered_stop b h 0 (take n rs) (and_split (ordered 0 (take n rs)) (unused (drop n rs)) m.1).0
       cases false e = tt
 
   ranges_high : (kind : ℕ) (w : PackedRanges) → High b (ranges_run at (ranges_of_run kind w))
-  unfolding ranges_of_run ranges_run
+  unfolding ranges_of_run
   ranges_high kind w = cases (eqb (kind % 256) 5 && leb kind 65535)
     where
-      cases : (t : Bool) → High b (ranges_run at (pick t (checked (kind / 256) (unpacked w)) no_ranges))
+      cases : (t : Bool) → High b (ranges_run at (pick t (checked (kind / 256) (unpacked w)) None))
       cases true = checked_high (kind / 256) (unpacked w)
       cases false = tt
 
@@ -110,5 +105,5 @@ module _ (b : ℕ) (h : 128 ≤ b) (at : ℕ) where
       (λ i. tt)
 
 -- "until-runs stop only at their exit bytes and pass bytes of 128 and above; ranges stop there; any takes all": of every run that is read
-pub read_high : (w : List ℕ) (at : ℕ) (r : Run) → read_at w at ≡ run r → (b : ℕ) → 128 ≤ b → stops (shape r) b ≡ stops_high (shape r)
+pub read_high : (w : List ℕ) (at : ℕ) (r : AsciiRun) → read_at w at ≡ Ok r → (b : ℕ) → 128 ≤ b → stops (shape r) b ≡ stops_high (shape r)
 read_high w at r e b h = subst (High b) e (got_high b h at w)

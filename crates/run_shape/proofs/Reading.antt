@@ -1,7 +1,7 @@
 -- The reading of a run's words, by the tests that the code makes in turn. `r` is the code's answer. Assumes nothing.
 use Prim.Native.Nat.{ℕ, ◌+◌, ◌-◌, ◌/◌, ◌%◌, ◌≤◌, ◌<◌}
 use native.Mathlib.Omega.{arith}
-use mathlib.Core.Path.{◌≡◌, refl, ap, sym, ◌∙◌}
+use mathlib.Core.Path.{◌≡◌, refl, sym, ◌∙◌}
 use mathlib.Core.Bool.{Bool, true, false, ◌&&◌, and-true, and_assoc}
 use mathlib.Core.List.{List, [], ◌∷◌}
 use lib.Dec.{eqb, leb, ltb}
@@ -10,138 +10,85 @@ use borrow.Author.Rules.{rules}
 use borrow.Author.Tests.{eq-eqb, ne_eqb, le-leb, lt-leb, lt-ltb, le-ltb, eqb-true}
 use Rattle.refusal.specs.Said.{SHORT, FIELD}
 use Rattle.refusal.specs.Lists.{pick, every}
+use Rattle.std.specs.Prelude.{Option, Some, None, Ok, Err}
 use Rattle.run_ranges.specs.declared.AsciiRanges.{AsciiRanges}
 use Rattle.run_ranges.specs.declared.PackedRanges.{PackedRanges}
-use Rattle.run_ranges.specs.Ranges.{no_ranges, ranges_of_run}
+use Rattle.run_ranges.specs.Ranges.{ranges_of_run}
 use Rattle.run_shape.specs.declared.AsciiRun.{AsciiRun}
-use Rattle.run_shape.specs.declared.AsciiRun.TheVariants.{None, Any, Until1, Until2, Until3, Ranges}
-use Rattle.run_shape.specs.declared.Answered.{Answered}
-use Rattle.run_shape.specs.declared.Answered.TheVariants.{Ran}
-use Rattle.run_shape.specs.declared.Run.{Run}
-use Rattle.run_shape.specs.declared.RunAnswer.{RunAnswer}
-use Rattle.run_shape.specs.Shape.{until, plain, held, Got, run, refused, answered, Gives}
+use Rattle.run_shape.specs.declared.AsciiRun.TheVariants as runs
+use Rattle.run_shape.specs.Shape.{until, held, Got, refused}
 use Rattle.run_shape.specs.Words.{or_field, short_run, kind_of, bytes_of, ranges_run, packed_at, read_at, size_of, alone_in, read_alone}
-use Rattle.run_shape.proofs.Answers.{gives}
-
--- a test of a run's bytes
-module _ (at : ℕ) (k : AsciiRun) {t : Bool} where
-  pub field_good : t ≡ true → Ran k ≡ (answered (or_field at t (plain k))).answer
-  unfolding or_field
-  field_good e = rw e
-
-  pub field_bad : {r : Answered} → r ≡ (answered (refused FIELD at)).answer → t ≡ false → r ≡ (answered (or_field at t (plain k))).answer
-  unfolding or_field
-  field_bad h e = h ∙ (rw e)
-
-module _ {r : RunAnswer} where
-  -- the ranges of three words
-  pub ranges_bad : (at : ℕ) (q : AsciiRanges) {p : AsciiRanges} → r ≡ answered (refused FIELD at) → p ≡ q → p.count ≡ 0 → r ≡ answered (ranges_run at q)
-  unfolding ranges_run
-  ranges_bad at q h e z = h ∙ (rw (eq-eqb q.count 0 (ap (λ (x : AsciiRanges). x.count) (sym e) ∙ z)))
-
-pub ranges_good_lem : (at : ℕ) (q : AsciiRanges) {p : AsciiRanges} → p ≡ q → (p.count ≡ 0 → ⊥)
-    → record { answer = Ran Ranges; ranges = p } ≡ answered (ranges_run at q)
-unfolding ranges_run
-ranges_good_lem at q e z = rw (ne_eqb q.count 0 (λ k. z (ap (λ (x : AsciiRanges). x.count) e ∙ k)), e)
 
 -- A run of one word, kind by kind.
-module _ (at word : ℕ) {r : Answered} where
-  pub short_none : r ≡ (answered (or_field at (eqb (word / 256 % 256) 0 && eqb (word / 65536 % 256) 0 && eqb (word / 16777216) 0) (plain None))).answer
-      → word % 256 ≡ 0 → r ≡ (answered (short_run at (kind_of word) (bytes_of word))).answer
+module _ (at word : ℕ) {r : Got} where
+  pub short_none : r ≡ or_field at (eqb (word / 256 % 256) 0 && eqb (word / 65536 % 256) 0 && eqb (word / 16777216) 0) runs.None
+      → word % 256 ≡ 0 → r ≡ short_run at (kind_of word) (bytes_of word)
   unfolding short_run every held
   short_none h e = h ∙ (rw e (simp (and-true, and_assoc)))
 
-  pub short-any : r ≡ (answered (or_field at (eqb (word / 256 % 256) 0 && eqb (word / 65536 % 256) 0 && eqb (word / 16777216) 0) (plain Any))).answer
-      → word % 256 ≡ 1 → r ≡ (answered (short_run at (kind_of word) (bytes_of word))).answer
+  pub short-any : r ≡ or_field at (eqb (word / 256 % 256) 0 && eqb (word / 65536 % 256) 0 && eqb (word / 16777216) 0) runs.Any
+      → word % 256 ≡ 1 → r ≡ short_run at (kind_of word) (bytes_of word)
   unfolding short_run every held
   short-any h e = h ∙ (rw e (simp (and-true, and_assoc)))
 
-  pub short_one : r ≡ (answered (or_field at (ltb (word / 256 % 256) 128 && eqb (word / 65536 % 256) 0 && eqb (word / 16777216) 0)
-      (plain (Until1 (word / 256 % 256))))).answer → word % 256 ≡ 2 → r ≡ (answered (short_run at (kind_of word) (bytes_of word))).answer
+  pub short_one : r ≡ or_field at (ltb (word / 256 % 256) 128 && eqb (word / 65536 % 256) 0 && eqb (word / 16777216) 0)
+      (runs.Until1 (word / 256 % 256)) → word % 256 ≡ 2 → r ≡ short_run at (kind_of word) (bytes_of word)
   unfolding short_run every held
   short_one h e = h ∙ (rw e (simp (and-true, and_assoc)))
 
-  pub short-two : r ≡ (answered (or_field at (ltb (word / 256 % 256) 128 && ltb (word / 65536 % 256) 128 && eqb (word / 16777216) 0)
-      (plain (Until2 (word / 256 % 256) (word / 65536 % 256))))).answer → word % 256 ≡ 3 → r ≡ (answered (short_run at (kind_of word) (bytes_of word))).answer
+  pub short-two : r ≡ or_field at (ltb (word / 256 % 256) 128 && ltb (word / 65536 % 256) 128 && eqb (word / 16777216) 0)
+      (runs.Until2 (word / 256 % 256) (word / 65536 % 256)) → word % 256 ≡ 3 → r ≡ short_run at (kind_of word) (bytes_of word)
   unfolding short_run every held
   short-two h e = h ∙ (rw e (simp (and-true, and_assoc)))
 
-  pub short_three : r ≡ (answered (or_field at (ltb (word / 256 % 256) 128 && ltb (word / 65536 % 256) 128 && ltb (word / 16777216) 128)
-      (plain (Until3 (word / 256 % 256) (word / 65536 % 256) (word / 16777216))))).answer → word % 256 ≡ 4
-      → r ≡ (answered (short_run at (kind_of word) (bytes_of word))).answer
+  pub short_three : r ≡ or_field at (ltb (word / 256 % 256) 128 && ltb (word / 65536 % 256) 128 && ltb (word / 16777216) 128)
+      (runs.Until3 (word / 256 % 256) (word / 65536 % 256) (word / 16777216)) → word % 256 ≡ 4
+      → r ≡ short_run at (kind_of word) (bytes_of word)
   unfolding short_run every held
   short_three h e = h ∙ (rw e (simp (and-true, and_assoc)))
 
-  pub short_other : r ≡ (answered (refused FIELD at)).answer → (word % 256 ≡ 0 → ⊥) → (word % 256 ≡ 1 → ⊥) → (word % 256 ≡ 2 → ⊥) → (word % 256 ≡ 3 → ⊥)
-      → (word % 256 ≡ 4 → ⊥) → r ≡ (answered (short_run at (kind_of word) (bytes_of word))).answer
+  pub short_other : r ≡ refused FIELD at → (word % 256 ≡ 0 → ⊥) → (word % 256 ≡ 1 → ⊥) → (word % 256 ≡ 2 → ⊥) → (word % 256 ≡ 3 → ⊥)
+      → (word % 256 ≡ 4 → ⊥) → r ≡ short_run at (kind_of word) (bytes_of word)
   unfolding short_run
   short_other h n0 n1 n2 n3 n4 =
       let more : 4 < word % 256 = omega arith in
       h ∙ (rw (ne_eqb (word % 256) 0 n0, ne_eqb (word % 256) 1 n1, lt-leb (word % 256) 4 more))
 
--- a run of one word has no ranges, so its kind is the whole answer
 by_pick : (P : Got → Type 0) (t : Bool) {x y : Got} → P x → P y → P (pick t x y)
 by_pick P true a b = a
 by_pick P false a b = b
 
-abbrev pub Bare : Got → Type 0
-Bare g = (answered g).ranges ≡ no_ranges
-
-bare_until : (es : List ℕ) → Bare (run (held (until es)))
-unfolding held
-bare_until [] = refl
-bare_until (a ∷ []) = refl
-bare_until (a ∷ b ∷ []) = refl
-bare_until (a ∷ b ∷ c ∷ []) = refl
-bare_until (a ∷ b ∷ c ∷ d ∷ es) = refl
-
-bare_field : (at : ℕ) (t : Bool) (q : Run) → q.ranges ≡ no_ranges → Bare (or_field at t q)
-unfolding or_field
-bare_field at true q h = h
-bare_field at false q h = refl
-
-pub bare : (at kind : ℕ) (bytes : List ℕ) → Bare (short_run at kind bytes)
-unfolding short_run held
-bare at kind bytes =
-    by_pick Bare (eqb kind 0) (bare_field at _ (plain None) refl)
-    (by_pick Bare (eqb kind 1) (bare_field at _ (plain Any) refl)
-    (by_pick Bare (leb kind 4) {y = refused FIELD at} (bare_field at _ (held (until (take (kind - 1) bytes))) (bare_until (take (kind - 1) bytes))) refl))
-
-pub short_bare : (at word : ℕ) {a : Answered} {q : AsciiRanges} → a ≡ (answered (short_run at (kind_of word) (bytes_of word))).answer → q ≡ no_ranges
-    → record { answer = a; ranges = q } ≡ answered (short_run at (kind_of word) (bytes_of word))
-short_bare at word e f = rw (e, f, ← bare at (kind_of word) (bytes_of word))
-
 -- A run at a place.
-module _ (w : List ℕ) (at : ℕ) {r : RunAnswer} where
-  pub read_end : r ≡ answered (refused SHORT (length w)) → length w ≤ at → Gives r (read_at w at)
+module _ (w : List ℕ) (at : ℕ) {r : Got} where
+  pub read_end : r ≡ refused SHORT (length w) → length w ≤ at → r ≡ read_at w at
   unfolding read_at
-  read_end h l = gives _ (h ∙ (rw (le-ltb at (length w) l)))
+  read_end h l = h ∙ (rw (le-ltb at (length w) l))
 
-  pub read_short : r ≡ answered (short_run at (kind_of (get_or w at 0)) (bytes_of (get_or w at 0))) → at < length w
-      → (get_or w at 0 % 256 ≡ 5 → ⊥) → Gives r (read_at w at)
+  pub read_short : r ≡ short_run at (kind_of (get_or w at 0)) (bytes_of (get_or w at 0)) → at < length w
+      → (get_or w at 0 % 256 ≡ 5 → ⊥) → r ≡ read_at w at
   unfolding read_at
-  read_short h l n = gives _ (h ∙ (rw (lt-ltb at (length w) l, ne_eqb (get_or w at 0 % 256) 5 n)))
+  read_short h l n = h ∙ (rw (lt-ltb at (length w) l, ne_eqb (get_or w at 0 % 256) 5 n))
 
-  pub read_cut : r ≡ answered (refused SHORT (length w)) → at < length w → get_or w at 0 % 256 ≡ 5 → length w - at < 3 → Gives r (read_at w at)
+  pub read_cut : r ≡ refused SHORT (length w) → at < length w → get_or w at 0 % 256 ≡ 5 → length w - at < 3 → r ≡ read_at w at
   unfolding read_at
   read_cut h l e s =
       let m : length w < at + 3 = omega arith in
-      gives _ (h ∙ (rw (lt-ltb at (length w) l, eq-eqb (get_or w at 0 % 256) 5 e, lt-leb (at + 3) (length w) m)))
+      h ∙ (rw (lt-ltb at (length w) l, eq-eqb (get_or w at 0 % 256) 5 e, lt-leb (at + 3) (length w) m))
 
-  pub read_ranges : r ≡ answered (ranges_run at (ranges_of_run (get_or w at 0) (record { first = get_or w (at + 1) 0; second = get_or w (at + 2) 0 }))) → at < length w
-      → get_or w at 0 % 256 ≡ 5 → 3 ≤ length w - at → Gives r (read_at w at)
+  pub read_ranges : r ≡ ranges_run at (ranges_of_run (get_or w at 0) (record { first = get_or w (at + 1) 0; second = get_or w (at + 2) 0 })) → at < length w
+      → get_or w at 0 % 256 ≡ 5 → 3 ≤ length w - at → r ≡ read_at w at
   unfolding read_at
   read_ranges h l e s =
       let m : at + 3 ≤ length w = omega arith in
       let two : at + 1 + 1 ≡ at + 2 = omega arith in
-      gives _ (h ∙ (rw (lt-ltb at (length w) l, eq-eqb (get_or w at 0 % 256) 5 e, le-leb (at + 3) (length w) m, two)))
+      h ∙ (rw (lt-ltb at (length w) l, eq-eqb (get_or w at 0 % 256) 5 e, le-leb (at + 3) (length w) m, two))
 
 -- A run of n words, or FIELD at a place.
 abbrev Sized : ℕ → ℕ → Got → Type 0
-Sized n at (run q) = size_of q.kind ≡ n
-Sized n at (refused m p) = (m ≡ FIELD) × (p ≡ at)
+Sized n at (Ok q) = size_of q ≡ n
+Sized n at (Err r) = Err r ≡ refused FIELD at
 
-until_size : (es : List ℕ) → size_of (held (until es)).kind ≡ 1
+until_size : (es : List ℕ) → size_of (held (until es)) ≡ 1
 unfolding held
 until_size [] = refl
 until_size (a ∷ []) = refl
@@ -149,30 +96,30 @@ until_size (a ∷ b ∷ []) = refl
 until_size (a ∷ b ∷ c ∷ []) = refl
 until_size (a ∷ b ∷ c ∷ d ∷ es) = refl
 
-field_size : (at : ℕ) (t : Bool) (q : Run) → size_of q.kind ≡ 1 → Sized 1 at (or_field at t q)
+field_size : (at : ℕ) (t : Bool) (q : AsciiRun) → size_of q ≡ 1 → Sized 1 at (or_field at t q)
 unfolding or_field
-field_size at t q h = by_pick (Sized 1 at) t h (refl, refl)
+field_size at t q h = by_pick (Sized 1 at) t h refl
 
 short_size : (at kind : ℕ) (bytes : List ℕ) → Sized 1 at (short_run at kind bytes)
 unfolding short_run held
 short_size at kind bytes =
-    by_pick (Sized 1 at) (eqb kind 0) (field_size at _ (plain None) refl)
-    (by_pick (Sized 1 at) (eqb kind 1) (field_size at _ (plain Any) refl)
-    (by_pick (Sized 1 at) (leb kind 4) (field_size at _ _ (until_size (take (kind - 1) bytes))) (refl, refl)))
+    by_pick (Sized 1 at) (eqb kind 0) (field_size at _ runs.None refl)
+    (by_pick (Sized 1 at) (eqb kind 1) (field_size at _ runs.Any refl)
+    (by_pick (Sized 1 at) (leb kind 4) (field_size at _ _ (until_size (take (kind - 1) bytes))) refl))
 
-ranges_size : (at : ℕ) (q : AsciiRanges) → Sized 3 at (ranges_run at q)
-unfolding ranges_run
-ranges_size at q = by_pick (Sized 3 at) (eqb q.count 0) (refl, refl) refl
+ranges_size : (at : ℕ) (q : Option AsciiRanges) → Sized 3 at (ranges_run at q)
+ranges_size at (Some r) = refl
+ranges_size at None = refl
 
 -- A run alone, by how many words there are: a run of so many stays, and any other is FIELD.
 module _ (w : List ℕ) where
   alone_same : (g : Got) → Sized (length w) 0 g → alone_in w g ≡ g
-  alone_same (run q) h = rw (eq-eqb (length w) (size_of q.kind) (sym h))
-  alone_same (refused m p) h = rw (h.0, h.1)
+  alone_same (Ok q) h = rw (eq-eqb (length w) (size_of q) (sym h))
+  alone_same (Err r) h = sym h
 
   alone_not : (n : ℕ) (g : Got) → Sized n 0 g → (length w ≡ n → ⊥) → alone_in w g ≡ refused FIELD 0
-  alone_not n (run q) h l = rw (ne_eqb (length w) (size_of q.kind) (λ e. l (e ∙ h)))
-  alone_not n (refused m p) h l = refl
+  alone_not n (Ok q) h l = rw (ne_eqb (length w) (size_of q) (λ e. l (e ∙ h)))
+  alone_not n (Err r) h l = refl
 
 -- the two readings of a list; in the one that its length leaves, a kind of the other is FIELD
 abbrev short : List ℕ → Got
@@ -186,7 +133,7 @@ unfolding short_run
 short_five kind bytes e = rw e
 
 ranges_other : (kind : ℕ) (q : PackedRanges) → eqb (kind_of kind) 5 ≡ false → ranges_run 0 (ranges_of_run kind q) ≡ refused FIELD 0
-unfolding ranges_run ranges_of_run
+unfolding ranges_of_run
 ranges_other kind q e = rw e
 
 module _ (w : List ℕ) where
@@ -208,29 +155,24 @@ module _ (w : List ℕ) where
       let three : P (ranged w) = alone_not w 3 (ranged w) (ranges_size 0 _) b in
       by_pick P (ltb 0 (length w)) (by_pick P (eqb (kind_of (get_or w 0 0)) 5) (by_pick P (leb 3 (length w)) three refl) one) refl
 
-  module _ {r : RunAnswer} where
-    pub alone_short : r ≡ answered (short w) → length w ≡ 1 → Gives r (read_alone w)
-    alone_short h l = gives _ (h ∙ ap answered (short_alone _ refl l))
+  module _ {r : Got} where
+    pub alone_short : r ≡ short w → length w ≡ 1 → r ≡ read_alone w
+    alone_short h l = h ∙ short_alone _ refl l
 
-    pub alone_ranges : r ≡ answered (ranged w) → length w ≡ 3 → Gives r (read_alone w)
-    alone_ranges h l = gives _ (h ∙ ap answered (ranges_alone _ refl l))
+    pub alone_ranges : r ≡ ranged w → length w ≡ 3 → r ≡ read_alone w
+    alone_ranges h l = h ∙ ranges_alone _ refl l
 
-    pub alone_none : r ≡ answered (refused FIELD 0) → (length w ≡ 1 → ⊥) → (length w ≡ 3 → ⊥) → Gives r (read_alone w)
-    alone_none h a b = gives _ (h ∙ ap answered (sym (none_alone a b)))
+    pub alone_none : r ≡ refused FIELD 0 → (length w ≡ 1 → ⊥) → (length w ≡ 3 → ⊥) → r ≡ read_alone w
+    alone_none h a b = h ∙ sym (none_alone a b)
 
 pub ruleset reading = (
   rules,
-  field_good,
-  field_bad,
-  ranges_bad,
-  ranges_good_lem,
   short_none,
   short-any,
   short_one,
   short-two,
   short_three,
   short_other,
-  short_bare,
   read_end,
   read_short,
   read_cut,

@@ -1,10 +1,10 @@
 -- The classification of a row (document 01, "Classification"). Assumes nothing.
-use Rattle.std.specs.Prelude.{ℕ, suc, ◌&&◌, List, [], ◌∷◌, eqb, leb, length}
+use Rattle.std.specs.Prelude.{ℕ, suc, ◌&&◌, Ok, List, [], ◌∷◌, eqb, leb, length}
 use Rattle.refusal.specs.Said.{FIELD}
 use Rattle.refusal.specs.Lists.{pick}
 use Rattle.run_ranges.specs.declared.AsciiRange.{AsciiRange}
 use Rattle.run_ranges.specs.Ranges.{exits_at, ranges_from}
-use Rattle.run_shape.specs.Shape.{Shape, none, any, until, ranges, held, Got, run, refused}
+use Rattle.run_shape.specs.Shape.{Shape, none, any, until, ranges, held, Got, refused}
 
 -- "symbols not looping on the state are exits": of a row whose first target is that of `symbol`
 unfoldable pub exits_from : ℕ → ℕ → List ℕ → List ℕ
@@ -23,4 +23,4 @@ classification state row = by_exits (exits_from state 0 row) (ranges_from state 
 
 -- called alone, it takes 128 targets and a state; anything else is FIELD
 unfoldable pub classified : ℕ → List ℕ → Got
-classified state row = pick (eqb (length row) 128) (run (held (classification state row))) (refused FIELD 0)
+classified state row = pick (eqb (length row) 128) (Ok (held (classification state row))) (refused FIELD 0)

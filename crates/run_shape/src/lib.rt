@@ -3,7 +3,7 @@
 #![tactic(auto)]
 
 ghost use Rattle.std.specs.Prelude.{◌≡◌};
-ghost use Rattle.run_shape.specs.Shape.{answered, refused};
+ghost use Rattle.run_shape.specs.Shape.{refused};
 ghost use Rattle.run_shape.specs.Words.{size_of};
 
 use refusal::Refusal;
@@ -17,28 +17,7 @@ pub enum AsciiRun {
     Until1(u8),
     Until2(u8, u8),
     Until3(u8, u8, u8),
-    Ranges,
-}
-
-// A run, with the ranges' array beside the enum.
-#[derive(Clone, Copy)]
-pub struct Run {
-    pub kind: AsciiRun,
-    pub ranges: AsciiRanges,
-}
-
-// What classification and reading answer.
-#[derive(Clone, Copy)]
-pub enum Answered {
-    Ran(AsciiRun),
-    Refused(Refusal),
-}
-
-// The answer, with the ranges' array beside it.
-#[derive(Clone, Copy)]
-pub struct RunAnswer {
-    pub answer: Answered,
-    pub ranges: AsciiRanges,
+    Ranges(AsciiRanges),
 }
 
 // The words of a run: one, or three.
@@ -57,36 +36,23 @@ pub struct AsciiRunScan {
     pub found_exit: bool,
 }
 
-#[derive(Clone, Copy)]
-pub enum Scanned {
-    NoRun,
-    Skipped(AsciiRunScan),
-}
-
-// A refusal has no ranges.
-pub fn refuse(number: u32, place: usize) -> RunAnswer
-    ensures { result ≡ answered (refused number place) }
+// No run, but the refusal of that number, at that place.
+pub fn refuse(number: u32, place: usize) -> Result<AsciiRun, Refusal>
+    ensures { result ≡ refused number place }
 {
-    RunAnswer {
-        answer: Answered::Refused(Refusal {
-            number,
-            item: 0,
-            place,
-        }),
-        ranges: run_ranges::none(),
-    }
+    Err(Refusal {
+        number,
+        item: 0,
+        place,
+    })
 }
 
 // How many words a run has.
-pub fn serialized_words(kind: AsciiRun) -> usize
-    ensures { result ≡ size_of kind }
+pub fn serialized_words(run: AsciiRun) -> usize
+    ensures { result ≡ size_of run }
 {
-    match kind {
-        AsciiRun::None => 1,
-        AsciiRun::Any => 1,
-        AsciiRun::Until1(_) => 1,
-        AsciiRun::Until2(_, _) => 1,
-        AsciiRun::Until3(_, _, _) => 1,
-        AsciiRun::Ranges => 3,
+    match run {
+        AsciiRun::Ranges(_) => 3,
+        _ => 1,
     }
 }

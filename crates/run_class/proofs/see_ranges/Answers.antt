@@ -1,35 +1,26 @@
+use Rattle.std.proofs.Common.{rules, ◌≡◌, ◌∙◌, ℕ, min, List, length, take, ap}
+use Rattle.std.proofs.lemmas.List.{take_min}
+use Rattle.run_ranges.specs.declared.AsciiRange.{AsciiRange}
+use Rattle.run_ranges.proofs.Fields.{four_ranges}
+use Rattle.run_class.specs.Class.{bytes_of}
+use Rattle.run_class.specs.declared.Seen.{Seen}
+use Rattle.run_class.specs.Seen.{seen_in}
 use Rattle.run_class.proofs.Classes.{seeing}
 use Rattle.run_class.proofs.see_ranges.Goals as goal
 
-pub overflow_cast-count : goal.overflow_cast-count
-overflow_cast-count c = search seeing
+-- the array has four places, so that no range that counts is cut off
+all_that_count : (rs : List AsciiRange) (m n k : ℕ) {s : Seen} → length rs ≡ 4 → m ≡ min n 4 → n ≡ k → s ≡ seen_in (bytes_of (take m rs)) → s ≡ seen_in (bytes_of (take k rs))
+all_that_count rs m n k l e f h = h ∙ ap (λ xs. seen_in (bytes_of xs)) (rw (e, ← l, take_min n rs, f))
 
-pub flags-seen-requires : goal.flags-seen-requires
-flags-seen-requires c = search seeing
+pub loop-range-init : goal.loop-range-init
+loop-range-init c = search seeing
 
-pub loop-i-init : goal.loop-i-init
-loop-i-init c = search seeing
-
-pub returns-then-i-eq-MAX_RANGES : goal.returns-then-i-eq-MAX_RANGES
-returns-then-i-eq-MAX_RANGES c = search seeing
-
-pub offset_bounds-rs-i : goal.offset_bounds-rs-i
-offset_bounds-rs-i c = search seeing
-
-pub bounds-rs-i : goal.bounds-rs-i
-bounds-rs-i c = search seeing
-
-pub see_range-seen-requires : goal.see_range-seen-requires
-see_range-seen-requires c = search seeing
-
-pub overflow_add-i : goal.overflow_add-i
-overflow_add-i c = search seeing
-
-pub loop-i-smaller : goal.loop-i-smaller
-loop-i-smaller c = search seeing
-
-pub loop-i-preserved : goal.loop-i-preserved
-loop-i-preserved c = search seeing
+pub loop-range-preserved : goal.loop-range-preserved
+loop-range-preserved c = search seeing
 
 pub returns : goal.returns
-returns c = search seeing
+returns c =
+    let rs = c.args.ranges.ranges in
+    let seen : c.loop-range.seen ≡ seen_in (bytes_of (take c.min-count.result rs)) = search seeing in
+    let four : length rs ≡ 4 = search (rules, four_ranges) in
+    all_that_count rs c.min-count.result c.from.result c.args.ranges.count four c.min-count.ensures c.from.ensures seen

@@ -1,35 +1,30 @@
-use Rattle.run_ranges.proofs.Checks.{checking}
+-- One turn tests the first of the ranges that are left.
+use Rattle.std.proofs.Common.{rules, ◌≡◌, ℕ, ◌+◌, add-one, ◌<◌, ◌≤◌, Bool, true, false, List, length, get_or, drop}
+use Rattle.std.proofs.Math.Seq.{drop-cons}
+use lib.ListN.{drop_of_length-le}
+use Rattle.run_ranges.specs.declared.AsciiRange.{AsciiRange}
+use Rattle.run_ranges.specs.Ranges.{range, ordered, follows}
 use Rattle.run_ranges.proofs.ordered.Goals as goal
 
-pub loop-i-init : goal.loop-i-init
-loop-i-init c = search checking
+module _ (rs : List AsciiRange) (least i : ℕ) {x : Bool} where
+  stops : {t : Bool} → t ≡ false → i < length rs → t ≡ follows least (get_or rs i (range 0 0)) → ordered least (drop i rs) ≡ x → false ≡ x
+  unfolding ordered
+  stops f h e o = rw (drop-cons rs i (range 0 0) h, ← e, f) at o
 
-pub offset_bounds-ranges-i : goal.offset_bounds-ranges-i
-offset_bounds-ranges-i c = search checking
+  goes : {t : Bool} {high : ℕ} → t ≡ true → i < length rs → t ≡ follows least (get_or rs i (range 0 0)) → high ≡ (get_or rs i (range 0 0)).high → ordered least (drop i rs) ≡ x
+      → ordered (high + 2) (drop (i + 1) rs) ≡ x
+  unfolding ordered
+  goes f h e w o = rw (w, add-one) (rw (drop-cons rs i (range 0 0) h, ← e, f) at o)
 
-pub bounds-ranges-i : goal.bounds-ranges-i
-bounds-ranges-i c = search checking
+  ends : length rs ≤ i → ordered least (drop i rs) ≡ x → true ≡ x
+  unfolding ordered
+  ends h o = rw (drop_of_length-le rs h) at o
 
-pub follows-requires : goal.follows-requires
-follows-requires c = search checking
+pub returns-then-not-follows : goal.returns-then-not-follows
+returns-then-not-follows c = search (rules, stops)
 
-pub wide-least-requires : goal.wide-least-requires
-wide-least-requires c = search checking
-
-pub overflow_add-least : goal.overflow_add-least
-overflow_add-least c = search checking
-
-pub overflow_add-i : goal.overflow_add-i
-overflow_add-i c = search checking
-
-pub loop-i-smaller : goal.loop-i-smaller
-loop-i-smaller c = search checking
-
-pub loop-i-preserved : goal.loop-i-preserved
-loop-i-preserved c = search checking
-
-pub returns-else-follows : goal.returns-else-follows
-returns-else-follows c = search checking
+pub loop-range-preserved : goal.loop-range-preserved
+loop-range-preserved c = search (rules, goes)
 
 pub returns : goal.returns
-returns c = search checking
+returns c = search (rules, ends)

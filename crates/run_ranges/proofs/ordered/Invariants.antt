@@ -1,12 +1,8 @@
 -- The loop's invariant: the ranges from here on are in order exactly when all are.
-use Rattle.run_ranges.specs.Ranges.{ordered}
-use Prim.Native.Nat.{◌-◌}
 use mathlib.Core.Path.{◌≡◌}
-use lib.ListN.{take, drop}
+use lib.ListN.{drop}
+use Rattle.run_ranges.specs.Ranges.{ordered}
 use Rattle.run_ranges.proofs.ordered.Given as goal
 
-abbrev pub invariant-loop-i : goal.invariant-loop-i
-invariant-loop-i l = ordered l.least (drop l.i (take l.count l.ranges)) ≡ ordered 0 (take l.count l.ranges)
-
-abbrev pub decreases-loop-i : goal.decreases-loop-i
-decreases-loop-i l = l.count - l.i
+abbrev pub invariant-loop-range : goal.invariant-loop-range
+invariant-loop-range l = ordered l.least (drop l.range-index l.ranges) ≡ ordered 0 l.fn.ranges

@@ -1,29 +1,18 @@
-use Rattle.run_ranges.proofs.Checks.{checking}
+use Rattle.std.proofs.Common.{rules, ◌≡◌, ◌∙◌, refl, ap, ◌&&◌, List, [], ◌∷◌}
+use Rattle.std.specs.List.{list_all}
+use Rattle.std.proofs.lemmas.Iterator.{YieldsList-from_slice}
+use Rattle.std.proofs.lemmas.Iterator.Search.{all_from_yields_List}
+use borrow.Author.Tests.{tests}
+use Rattle.run_ranges.specs.declared.AsciiRange.{AsciiRange}
+use Rattle.run_ranges.specs.Ranges.{is_zero, unused}
 use Rattle.run_ranges.proofs.unused.Goals as goal
 
-pub loop-i-init : goal.loop-i-init
-loop-i-init c = search checking
-
-pub offset_bounds-ranges-i : goal.offset_bounds-ranges-i
-offset_bounds-ranges-i c = search checking
-
-pub bounds-ranges-i : goal.bounds-ranges-i
-bounds-ranges-i c = search checking
-
-pub is_zero-requires : goal.is_zero-requires
-is_zero-requires c = search checking
-
-pub overflow_add-i : goal.overflow_add-i
-overflow_add-i c = search checking
-
-pub loop-i-smaller : goal.loop-i-smaller
-loop-i-smaller c = search checking
-
-pub loop-i-preserved : goal.loop-i-preserved
-loop-i-preserved c = search checking
-
-pub returns-else-is_zero : goal.returns-else-is_zero
-returns-else-is_zero c = search checking
+each : (rs : List AsciiRange) → list_all is_zero rs ≡ unused rs
+unfolding unused
+each [] = refl
+each (r ∷ rs) = ap (λ t. is_zero r && t) (each rs)
 
 pub returns : goal.returns
-returns c = search checking
+returns c =
+    let all = all_from_yields_List is_zero _ _ _ c.all.ensures.ran (YieldsList-from_slice c.args.places.now cc) (λ x b q k. search (rules, tests)) in
+    all ∙ each c.args.places.now
