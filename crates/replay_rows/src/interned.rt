@@ -1,15 +1,13 @@
 // The records about a row that is interned: a pool in which rows stand, and a row.
-use pool_rows::Interned;
+use refusal::Refusal;
 use replay_io::tally::Replayed;
 use replay_io::{check, read};
 
 // The row's number, and the sums over the pool, which tell whether it changed as it must. No record is of a refusal.
-fn same(answer: Interned, sums: u64, recorded: &[u8]) -> bool {
+fn same(answer: Result<usize, Refusal>, sums: u64, recorded: &[u8]) -> bool {
     match answer {
-        Interned::At(row) => {
-            (row == read::size(recorded, 0)) & (sums == read::long(recorded, 2))
-        }
-        Interned::Refused(_) => false,
+        Ok(row) => (row == read::size(recorded, 0)) & (sums == read::long(recorded, 2)),
+        Err(_) => false,
     }
 }
 

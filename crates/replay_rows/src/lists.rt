@@ -1,8 +1,8 @@
 // The records about a list of transitions. No number of a buffer is 0 before a call, so that one which is left alone changes the check.
 // No record is of a refusal.
 use list_masks::Masks;
-use list_segments::Segments;
 use list_transitions::Transitions;
+use refusal::Refusal;
 use replay_io::tally::Replayed;
 use replay_io::{check, read};
 use row_build::Rows;
@@ -19,8 +19,8 @@ fn same_intervals(list: &[u8], recorded: &[u8]) -> bool {
     let answer = list_transitions::read_intervals(list, &mut out);
     let sums = check::of(check::NONE, &out).sums;
     match answer {
-        Transitions::Read { count, intervals } => same(count, intervals, sums, recorded),
-        Transitions::Refused(_) => false,
+        Ok(Transitions { count, intervals }) => same(count, intervals, sums, recorded),
+        Err(_) => false,
     }
 }
 
@@ -29,17 +29,17 @@ fn same_segments(list: &[u8], recorded: &[u8]) -> bool {
     let answer = list_segments::char_segments(list, &mut out);
     let sums = check::of(check::NONE, &out).sums;
     match answer {
-        Segments::Count(n) => same(n, 0, sums, recorded),
-        Segments::Refused(_) => false,
+        Ok(n) => same(n, 0, sums, recorded),
+        Err(_) => false,
     }
 }
 
-fn same_masks(answer: Masks, out: &[u64], recorded: &[u8]) -> bool {
+fn same_masks(answer: Result<Masks, Refusal>, out: &[u64], recorded: &[u8]) -> bool {
     match answer {
-        Masks::Count { masks, words } => {
+        Ok(Masks { masks, words }) => {
             same(masks, words, check::of(check::NONE, out).sums, recorded)
         }
-        Masks::Refused(_) => false,
+        Err(_) => false,
     }
 }
 
@@ -58,12 +58,18 @@ fn same_distinct(list: &[u8], recorded: &[u8]) -> bool {
     same_masks(answer, &out, recorded)
 }
 
-fn same_built(rows: Rows, ascii: &[u16], wide: &[u32], escape: &[u32], recorded: &[u8]) -> bool {
+fn same_built(
+    rows: Result<Rows, Refusal>,
+    ascii: &[u16],
+    wide: &[u32],
+    escape: &[u32],
+    recorded: &[u8],
+) -> bool {
     let sums = check::of(check::of(check::NONE, ascii), wide);
     let sums = check::of(sums, escape).sums;
     match rows {
-        Rows::Built { wide, escape } => same(wide, escape, sums, recorded),
-        Rows::Refused(_) => false,
+        Ok(Rows { wide, escape }) => same(wide, escape, sums, recorded),
+        Err(_) => false,
     }
 }
 
