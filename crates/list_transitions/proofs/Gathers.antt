@@ -7,15 +7,19 @@ use Prim.Native.Nat.{ℕ, ◌+◌, ◌-◌, ◌<◌, ◌≤◌}
 use native.Mathlib.Omega.{arith}
 use borrow.Author.Rules.{rules}
 use borrow.Author.Tests.{lt-ltb, le-ltb}
-use lib.ListN.{length, get_or, length-replicate}
-use Rattle.std.specs.Prelude.{Result, Ok, Err}
+use lib.ListN.{length, get_or, take, drop, length-replicate}
+use Rattle.std.specs.Prelude.{Ok, Err, Option, Some, None, IsSome}
+use mathlib.Core.Bool.{true≢false}
 use Rattle.refusal.specs.declared.Refusal.{Refusal}
 use Rattle.refusal.specs.Said.{no_by, refusal_at, ROOM}
 use Rattle.buffer.specs.Over.{lay, Put, zeros, padded}
 use Rattle.buffer.proofs.Overs.{lay-zeros}
 use Rattle.buffer.proofs.Going.{Going, going_start, going_done, going_room, going_turn}
 use Rattle.list_transitions.specs.Intervals.{intervals, ends, ends_all}
-use Rattle.list_transitions.specs.Bytes.{size_at, shape_of, trans_of}
+use Rattle.list_transitions.specs.Bytes.{size_at, shape_of}
+use Rattle.list_transitions.specs.declared.Value.{Value}
+use Rattle.list_transitions.specs.Values.{transition_of, Says, IsRead}
+use Rattle.list_transitions.proofs.Values.{part-shape, part-says}
 use Rattle.list_transitions.specs.Read.{said, Parsed, parsed, refused, parse_from, parse, is_parsed, accepted, counted}
 use Rattle.list_transitions.specs.Walk.{trans_at, next_at}
 use Rattle.list_transitions.specs.Ends.{parse_into, ends_in, Writes}
@@ -49,32 +53,49 @@ module _ (w old : List ℕ) (at n : ℕ) (out : List ℕ) (g : Gather w old at n
     unfolding ends_all
     going_here = rw here.is at g.going
 
-    module _ {s : ℕ} (e : s ≡ size_at w (at + 1)) where
-      pub gather_value : at + 3 + s ≤ length w
-      gather_value = rw e here.fine.there
+    module _ {s n' : ℕ} (e : s ≡ size_at w (at + 1)) (f : n' ≡ at + 3 + s) where
+      pub gather_next : n' ≤ length w
+      gather_next = omega (arith, here.fine.there, e, f)
 
-      pub gather_shape : shape_of (get_or w at 0) s ≡ true
-      gather_shape = rw e here.fine.shape
+      there : at + 3 + s ≤ length w
+      there = omega (arith, here.fine.there, e)
 
-      pub gather_room : n + length (ends (intervals (trans_of w (get_or w at 0) s (at + 3)))) ≤ length out
-      gather_room = rw e (going_room (ends_all (accepted (parse w))) 0 old rest n out (ends (intervals (trans_at w at))) going_here)
+      abbrev value : List ℕ
+      value = take (n' - (at + 3)) (drop (at + 3) w)
 
-      pub gather_again : {r : ℕ} {new : List ℕ} → Put (ends (intervals (trans_of w (get_or w at 0) s (at + 3)))) n out r new →
-          Gather w old (at + 3 + s) r new
-      gather_again p =
-          rw e
-          (record {
-            left = g.left - 1;
-            used = g.used + length (intervals (trans_at w at));
-            good = here.rest;
-            going = going_turn (ends_all (accepted (parse w))) 0 old rest n out (ends (intervals (trans_at w at))) (rw e at p) going_here;
-          })
+      -- the record's value is there, since its shape was judged
+      fits : shape_of (get_or w at 0) (length value) ≡ true
+      fits = part-shape w (at + 3) s n' there f (get_or w at 0) ∙ (rw e here.fine.shape)
+
+      pub gather_some : (o : Option Value) → IsRead (get_or w at 0) value o → IsSome o
+      gather_some (Some v) r = search rules
+      gather_some None r = absurd (true≢false (sym fits ∙ r))
+
+      pub gather_says : (o : Option Value) → IsRead (get_or w at 0) value o → {v : Value} → o ≡ Some v → Says (get_or w at 0) value v
+      gather_says o r {v} h = rw h at r
+
+      module _ {v : Value} (r : Says (get_or w at 0) value v) where
+        is_trans : transition_of v ≡ trans_at w at
+        is_trans = (part-says w (at + 3) s n' there f r).1 ∙ (rw e refl)
+
+        pub gather_room : n + length (ends (intervals (transition_of v))) ≤ length out
+        gather_room = rw is_trans (going_room (ends_all (accepted (parse w))) 0 old rest n out (ends (intervals (trans_at w at))) going_here)
+
+        pub gather_again : {r : ℕ} {new : List ℕ} → Put (ends (intervals (transition_of v))) n out r new → Gather w old n' r new
+        gather_again p =
+            rw (f, e)
+            (record {
+              left = g.left - 1;
+              used = g.used + length (intervals (trans_at w at));
+              good = here.rest;
+              going = going_turn (ends_all (accepted (parse w))) 0 old rest n out (ends (intervals (trans_at w at))) (rw is_trans at p) going_here;
+            })
 
   pub gather_done : length w ≤ at → Put (ends_all (accepted (parse w))) 0 old n out
   unfolding ends_all
   gather_done l = going_done (ends_all (accepted (parse w))) 0 old (rw (ended w g.left at g.used l) at g.going)
 
-pub ruleset gathering = (rules, gather_start, gather_size, gather_value, gather_shape, gather_room, gather_again, gather_done)
+pub ruleset gathering = (rules, gather_start, gather_size, gather_next, gather_done)
 
 -- What an answer says of the list, and what the buffer then holds
 

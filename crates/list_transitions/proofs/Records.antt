@@ -7,38 +7,39 @@ use native.Mathlib.Nat.{add-zero}
 use native.Mathlib.Omega.{arith}
 use borrow.Author.Rules.{rules}
 use borrow.Author.Tests.{le-leb, lt-leb, lt-ltb, le-ltb}
-use lib.ListN.{length, get_or}
+use lib.ListN.{length, get_or, take, drop}
 use Rattle.std.specs.Prelude.{Result, Ok, Err}
 use Rattle.refusal.specs.declared.Refusal.{Refusal}
 use Rattle.refusal.specs.Said.{Said, ok, no_by, no, refusal_at, SHORT, FIELD, ORDER, LIMIT}
 use Rattle.list_transitions.specs.Transition.{Transition, in_order}
 use Rattle.list_transitions.specs.Intervals.{intervals, total}
-use Rattle.list_transitions.specs.Bytes.{size_at, shape_of, trans_of}
+use Rattle.list_transitions.specs.Bytes.{size_at, shape_of}
 use Rattle.list_transitions.specs.Read.{said, Rec, good, bad, body_at, record_at, step_of, Parsed, parsed, refused, more, onward, parse_from, counted}
 use Rattle.list_transitions.specs.declared.Step.{Step}
 use Rattle.list_transitions.specs.declared.Transitions.{Transitions}
+use Rattle.list_transitions.specs.declared.Value.{Value}
+use Rattle.list_transitions.specs.Values.{transition_of, Says}
+use Rattle.list_transitions.proofs.Values.{part-shape, part-says}
 use Rattle.list_transitions.proofs.Order.{le_cases}
 
 -- A record's value is judged
 
-module _ (w : List ℕ) (at size : ℕ) {s : Bool} (e : s ≡ shape_of (get_or w at 0) size) where
-  pub body_field : {r : Refusal} → r ≡ refusal_at FIELD at → s ≡ false → Err r ≡ step_of at (body_at w at size)
+module _ (w : List ℕ) (at size n : ℕ) (l : at + 3 + size ≤ length w) (e : n ≡ at + 3 + size) where
+  abbrev value : List ℕ
+  value = take (n - (at + 3)) (drop (at + 3) w)
+
+  pub body_field : {r : Refusal} → shape_of (get_or w at 0) (length value) ≡ false → r ≡ refusal_at FIELD at → Err r ≡ step_of at (body_at w at size)
   unfolding body_at step_of
-  body_field f h = rw (← e, h, f)
+  body_field s f = rw (← part-shape w (at + 3) size n l e (get_or w at 0), s, f)
 
-  module _ {o : Bool} (f : o ≡ in_order (trans_of w (get_or w at 0) size (at + 3))) (g : s ≡ true) where
-    pub body_order : {r : Refusal} → r ≡ refusal_at ORDER at → o ≡ false → Err r ≡ step_of at (body_at w at size)
+  module _ {v : Value} (s : Says (get_or w at 0) value v) {b : Bool} (o : b ≡ in_order (transition_of v)) where
+    pub body_order : {r : Refusal} → b ≡ false → r ≡ refusal_at ORDER at → Err r ≡ step_of at (body_at w at size)
     unfolding body_at step_of
-    body_order k h = rw (← e, g, ← f, h, k)
+    body_order h f = let p = part-says w (at + 3) size n l e s in rw (p.0, ← p.1, ← o, h, f)
 
-    pub body_good : {n : ℕ} → o ≡ true → n ≡ length (intervals (trans_of w (get_or w at 0) size (at + 3))) →
-        Ok (record { next = at + 3 + size; intervals = n }) ≡ step_of at (body_at w at size)
+    pub body_good : {m : ℕ} → b ≡ true → m ≡ length (intervals (transition_of v)) → Ok (record { next = n; intervals = m }) ≡ step_of at (body_at w at size)
     unfolding body_at step_of
-    body_good h k = rw (← e, g, ← f, h, k)
-
--- what a test answered, as the next call wants it
-pub shaped : (tag size : ℕ) {s : Bool} → s ≡ shape_of tag size → s ≡ true → shape_of tag size ≡ true
-shaped tag size e h = sym e ∙ h
+    body_good h k = let p = part-says w (at + 3) size n l e s in rw (p.0, ← p.1, ← o, h, k, e)
 
 -- A record is there, or the input ends
 
@@ -62,7 +63,7 @@ module _ (w : List ℕ) (at : ℕ) where
         let l : at + 3 + s ≤ length w = omega arith in
         rw (le-leb _ _ m, ← e, le-leb _ _ l) b
 
-pub ruleset judging = (rules, shaped, body_field, body_order, body_good, short_1, short_2, whole)
+pub ruleset judging = (rules, short_1, short_2, whole)
 
 -- One turn of the definition: a bad record, one past a limit, and a good one
 
