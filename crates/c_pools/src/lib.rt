@@ -17,15 +17,17 @@ pub struct CInterned {
     pub number: u32,
 }
 
-fn interned_in_c(interned: Result<usize, Refusal>) -> CInterned
-    ensures { result ≡ interned_in_c (pooling.said interned) }
-{
-    match interned {
-        Ok(i) => CInterned { row: i, number: 0 },
-        Err(refusal) => CInterned {
-            row: 0,
-            number: refusal.number,
-        },
+impl From<Result<usize, Refusal>> for CInterned {
+    ghost from_gives = { λ interned c. c ≡ interned_in_c (pooling.said interned) };
+
+    fn from(interned: Result<usize, Refusal>) -> CInterned {
+        match interned {
+            Ok(i) => CInterned { row: i, number: 0 },
+            Err(refusal) => CInterned {
+                row: 0,
+                number: refusal.number,
+            },
+        }
     }
 }
 
@@ -35,7 +37,7 @@ pub extern "C" fn lexer_dfa_intern_ascii(pool: &mut [u16], rows: usize, row: &[u
     ensures { (result ≡ interned_in_c (pooling.outcome_said (pooling.intern ascii pool.old rows row.now)))
         × (pool.new ≡ pooling.left_in pool.old (pooling.intern ascii pool.old rows row.now)) }
 {
-    interned_in_c(pool_ascii::intern_ascii(pool, rows, row))
+    pool_ascii::intern_ascii(pool, rows, row).into()
 }
 
 // Interns a row of ranges, three numbers each.
@@ -44,5 +46,5 @@ pub extern "C" fn lexer_dfa_intern_wide(pool: &mut [u32], rows: usize, row: &[u3
     ensures { (result ≡ interned_in_c (pooling.outcome_said (pooling.intern wide pool.old rows row.now)))
         × (pool.new ≡ pooling.left_in pool.old (pooling.intern wide pool.old rows row.now)) }
 {
-    interned_in_c(pool_wide::intern_wide(pool, rows, row))
+    pool_wide::intern_wide(pool, rows, row).into()
 }

@@ -21,24 +21,26 @@ pub struct CRows {
     pub escape: usize,
 }
 
-fn rows_in_c(rows: Result<Rows, Refusal>) -> CRows
-    ensures { result ≡ rows_in_c (building.said rows) }
-{
-    match rows {
-        Ok(Rows { wide, escape }) => CRows {
-            number: 0,
-            item: 0,
-            place: 0,
-            wide,
-            escape,
-        },
-        Err(refusal) => CRows {
-            number: refusal.number,
-            item: refusal.item,
-            place: refusal.place,
-            wide: 0,
-            escape: 0,
-        },
+impl From<Result<Rows, Refusal>> for CRows {
+    ghost from_gives = { λ rows c. c ≡ rows_in_c (building.said rows) };
+
+    fn from(rows: Result<Rows, Refusal>) -> CRows {
+        match rows {
+            Ok(Rows { wide, escape }) => CRows {
+                number: 0,
+                item: 0,
+                place: 0,
+                wide,
+                escape,
+            },
+            Err(refusal) => CRows {
+                number: refusal.number,
+                item: refusal.item,
+                place: refusal.place,
+                wide: 0,
+                escape: 0,
+            },
+        }
     }
 }
 
@@ -62,7 +64,7 @@ pub extern "C" fn lexer_dfa_build_rows(
         (parse_rows (lent segments.old masks.old distinct.old ascii.old wide.old escape.old)
         list.now targets.now continuations.now) }
 {
-    rows_in_c(row_build::build_rows(
+    row_build::build_rows(
         list,
         targets,
         continuations,
@@ -72,5 +74,6 @@ pub extern "C" fn lexer_dfa_build_rows(
         ascii,
         wide,
         escape,
-    ))
+    )
+    .into()
 }

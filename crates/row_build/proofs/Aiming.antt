@@ -3,7 +3,8 @@ use Prim.Native.Nat.{ℕ, zero, suc, ◌+◌, ◌*◌, ◌-◌, ◌≤◌, ◌<�
 use mathlib.Core.Path.{◌≡◌, refl, ap}
 use mathlib.Core.List.{List, [], ◌∷◌}
 use native.Mathlib.Omega.{arith}
-use lib.ListN.{length, get_or}
+use lib.ListN.{length, get_or, take}
+use Rattle.std.proofs.lemmas.List.{get_or-take}
 use Rattle.row_build.specs.Aimed.{range_of, aimed}
 
 module _ (goal : ℕ → ℕ) (segs ps : List ℕ) where
@@ -25,6 +26,16 @@ module _ (goal : ℕ → ℕ) (segs ps : List ℕ) where
     aimed_done h =
         let none : count - k ≡ 0 = omega arith in
         ap (λ (n : ℕ). aimed goal segs ps n k) none
+
+  -- no more of the segments and places is read than is told
+  pub aimed_taken : (count n k : ℕ) → k + n ≤ count → aimed goal (take (2 * count) segs) (take count ps) n k ≡ aimed goal segs ps n k
+  unfolding aimed
+  aimed_taken count zero k h = refl
+  aimed_taken count (suc n) k h =
+      let low : get_or (take (2 * count) segs) (2 * k) 0 ≡ get_or segs (2 * k) 0 = get_or-take (2 * count) segs (2 * k) 0 (omega arith) in
+      let high : get_or (take (2 * count) segs) (2 * k + 1) 0 ≡ get_or segs (2 * k + 1) 0 = get_or-take (2 * count) segs (2 * k + 1) 0 (omega arith) in
+      let place : get_or (take count ps) k 0 ≡ get_or ps k 0 = get_or-take count ps k 0 (omega arith) in
+      rw (low, high, place, aimed_taken count n (k + 1) (omega arith))
 
   pub aimed_all : (count : ℕ) → aimed goal segs ps count 0 ≡ aimed goal segs ps (count - 0) 0
   aimed_all count =

@@ -7,7 +7,8 @@ use native.Mathlib.Omega.{arith}
 use borrow.Author.Rules.{rules}
 use lib.Dec.{eqb}
 use Rattle.std.specs.Prelude.{Result, Ok, Err}
-use lib.ListN.{length, get_or, length-append, length-replicate, get_or-eq_default}
+use lib.ListN.{length, get_or, take, length-append, length-replicate, get_or-eq_default}
+use lib.Seq.{length-take-le}
 use Rattle.refusal.specs.declared.Refusal.{Refusal}
 use Rattle.refusal.specs.Said.{Said, ok, no_by}
 use Rattle.refusal.specs.Lists.{pick}
@@ -41,6 +42,7 @@ use Rattle.row_build.specs.declared.Rows.{Rows}
 use Rattle.row_build.specs.Answer.{built, said, Lent, lent, with_rows, parse_rows, counted, ascii_in, wide_in, escape_in, Builds}
 use Rattle.row_build.specs.Aimed.{range_of, aimed, living, seen, joined, Spaced, Ready, Filled}
 use Rattle.row_build.specs.Asked.{Cleared, Asked, Fillable, Prepared}
+use Rattle.row_build.proofs.Aiming.{aimed_taken}
 use Rattle.row_build.proofs.Asking.{long, rows_asked}
 use Rattle.row_build.proofs.Living.{living-joined, look_living, part-joined, part_all}
 use Rattle.row_build.proofs.Joining.{few_joined}
@@ -236,9 +238,49 @@ prepared w t c {short} sg mk ds z h = record { short = short; cleared = z; asked
 
 pub ruleset preparing = (rules, prepared)
 
+-- .. and the rows are made of the first segments and places, as many as were found
+
+module _ (sg ps : List ℕ) (count : ℕ) where
+  abbrev sg₀ : List ℕ
+  sg₀ = take (2 * count) sg
+
+  abbrev ps₀ : List ℕ
+  ps₀ = take count ps
+
+  same_taken : (goal : ℕ → ℕ) → count ≤ length ps → aimed goal sg₀ ps₀ (length ps₀) 0 ≡ aimed goal sg ps count 0
+  same_taken goal h =
+      ap (λ (n : ℕ). aimed goal sg₀ ps₀ n 0) (length-take-le count ps h) ∙ aimed_taken goal sg ps count count 0 (omega arith)
+
+  ready_taken : {ai ws es : List ℕ} → Ready sg ps count ai ws es → Ready sg₀ ps₀ (length ps₀) ai ws es
+  ready_taken r =
+      let b : length ps₀ ≡ count = length-take-le count ps r.narrow.each in
+      let a : length sg₀ ≡ 2 * count = length-take-le (2 * count) sg r.narrow.points in
+      record {
+        narrow = record {
+          points = omega arith;
+          each = omega arith;
+          room = r.narrow.room;
+          order = λ goal. subst (Sorted 0) (sym (same_taken goal r.narrow.each)) (r.narrow.order goal);
+        };
+        broad = record { points = omega arith; each = omega arith; room = omega (arith, r.broad.room) };
+        escapes = record { points = omega arith; each = omega arith; room = omega (arith, r.escapes.room) };
+      }
+
+  filled_taken : {ts cs ai ai' ws ws' es es' : List ℕ} {r : Rows} → count ≤ length ps → Filled r ts cs sg₀ ps₀ (length ps₀) ai ai' ws ws' es es' →
+      Filled r ts cs sg ps count ai ai' ws ws' es es'
+  filled_taken {ts} {cs} {ai} {ai'} {ws} {ws'} {es} {es'} h f =
+      let row : (e : Bool) → joined e ts cs sg₀ ps₀ (length ps₀) ≡ joined e ts cs sg ps count =
+      λ e. ap (λ (rs : Row). seen e (join_to (range_of 0 0 (no_goal e)) rs)) (same_taken (goal_of e ts cs) h) in
+      record {
+        says = f.says ∙ ap₂ {C = Said} (λ x y. ok (length (numbers x) ∷ length (numbers y) ∷ [])) (row false) (row true);
+        narrow = f.narrow ∙ ap (λ (rs : Row). lay 0 (ascii_part rs) ai) (same_taken (target_at ts) h);
+        broad = f.broad ∙ ap (λ (rs : Row). lay 0 (numbers rs) ws) (row false);
+        escapes = f.escapes ∙ ap (λ (rs : Row). lay 0 (numbers rs) es) (row true);
+      }
+
 pub build_ready : {got : Places} {count m k : ℕ} {sg ps ai ws es : List ℕ} → got ≡ place.Found count m k → Fillable got sg ps ai ws es →
-    Ready sg ps count ai ws es
-build_ready {count = count} {m = m} {k = k} i h = h.found count m k i
+    Ready (take (2 * count) sg) (take count ps) (length (take count ps)) ai ws es
+build_ready {count = count} {m = m} {k = k} {sg = sg} {ps = ps} i h = ready_taken sg ps count (h.found count m k i)
 
 module _ (w targets conts sg mk ds ai ws es : List ℕ) {got : Places} {sg₁ mk₁ ds₁ ps ai₁ ws₁ es₁ : List ℕ}
     (g : Prepared w (length targets) (length conts) got sg sg₁ mk mk₁ ds ds₁ 2048 ps ai ai₁ ws ws₁ es es₁) where
@@ -319,10 +361,12 @@ module _ (w targets conts sg mk ds ai ws es : List ℕ) {got : Places} {sg₁ mk
     escapes : joined true targets conts sg₁ ps c ≡ escape_of ts targets conts
     escapes = joined-row true ∙ ap join (part_all (row_of_lem true))
 
-    pub build_done : {r : Rows} {ai₂ ws₂ es₂ : List ℕ} → Filled r targets conts sg₁ ps c ai₁ ai₂ ws₁ ws₂ es₁ es₂ →
+    pub build_done : {r : Rows} {ai₂ ws₂ es₂ : List ℕ} →
+        Filled r targets conts (take (2 * c) sg₁) (take c ps) (length (take c ps)) ai₁ ai₂ ws₁ ws₂ es₁ es₂ →
         Builds (Ok r) (lent sg mk ds ai ws es) sg₁ mk₁ ds₁ ai₂ ws₂ es₂ targets conts (parse_rows (lent sg mk ds ai ws es) w targets conts)
     unfolding segments_in masks_in counted ascii_in wide_in escape_in
-    build_done f =
+    build_done filled =
+        let f = filled_taken sg₁ ps c (a_place_each h i) filled in
         let fit-a : length (ascii_part (aimed (target_at targets) sg₁ ps c 0)) ≤ length ai =
         omega (arith, length-values (goal_at DEAD-STATE (aimed (target_at targets) sg₁ ps c 0)) 0 128, room.0) in
         let fit-w : length (numbers (joined false targets conts sg₁ ps c)) ≤ length ws =

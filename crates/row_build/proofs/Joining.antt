@@ -2,10 +2,11 @@
 use Prim.Native.Nat.{ℕ, suc, ◌+◌, ◌*◌, ◌-◌, ◌≤◌, ◌<◌, max}
 use mathlib.Core.Path.{◌≡◌, refl, sym, ap, ap₂, subst, ◌∙◌}
 use mathlib.Core.Logic.{⊎_elim}
-use mathlib.Core.Bool.{Bool, true, false, ◌&&◌, ◌||◌}
+use mathlib.Core.Bool.{Bool, true, false, ◌&&◌, ◌||◌, and-eq-true_iff}
 use mathlib.Core.List.{List, [], ◌∷◌, ◌++◌}
 use native.Mathlib.Omega.{arith}
 use borrow.Author.Rules.{rules}
+use borrow.Author.Tests.{eqb-true}
 use lib.Dec.{eqb, ltb}
 use lib.ListN.{length, get_or, set, length-set}
 use Rattle.refusal.specs.Lists.{pick, each}
@@ -21,48 +22,26 @@ use Rattle.row_build.specs.Aimed.{range_of, aimed, living, seen, seen_words, joi
 use Rattle.row_build.proofs.Living.{few_living}
 use Rattle.row_build.proofs.Aiming.{length-aimed, aimed_turn, aimed_done, aimed_all}
 
--- One range is written
+-- One range is written, or left out
 
-module _ (n : ℕ) (d : List ℕ) (h : n + 3 ≤ length d) where
-  pub second_place : (x : ℕ) → n + 1 < length (set d n x)
-  second_place x = omega (arith, length-set d n x)
+three_put : (n x y z : ℕ) (d : List ℕ) → n + 3 ≤ length d → Put (x ∷ y ∷ z ∷ []) n d (n + 3) (set (set (set d n x) (n + 1) y) (n + 2) z)
+three_put n x y z d h =
+    let s : length (set d n x) ≡ length d = length-set d n x in
+    let t : length (set (set d n x) (n + 1) y) ≡ length d = length-set (set d n x) (n + 1) y ∙ s in
+    let e : n + 2 + 1 ≡ n + 3 = omega arith in
+    let p : Put [] (n + 2 + 1) (set (set (set d n x) (n + 1) y) (n + 2) z) (n + 3) (set (set (set d n x) (n + 1) y) (n + 2) z) =
+    rw e (put_none (n + 3) (set (set (set d n x) (n + 1) y) (n + 2) z)) in
+    put_two x y (z ∷ []) n d (put_one z [] (n + 2) (set (set d n x) (n + 1) y) p (omega arith)) (omega arith)
 
-  pub third_place : (x y : ℕ) → n + 2 < length (set (set d n x) (n + 1) y)
-  third_place x y = omega (arith, length-set d n x, length-set (set d n x) (n + 1) y)
+module _ (e : Bool) (low high goal n : ℕ) (d : List ℕ) {u : Bool} (j : u ≡ (ltb high (first_of e) || eqb goal (no_goal e))) where
+  pub put_unseen : u ≡ true → Put (seen_words e low high goal) n d n d
+  put_unseen k = rw (sym j ∙ k) (put_none n d)
 
-  pub three_put : (x y z : ℕ) → Put (x ∷ y ∷ z ∷ []) n d (n + 3) (set (set (set d n x) (n + 1) y) (n + 2) z)
-  three_put x y z =
-      let s : length (set d n x) ≡ length d = length-set d n x in
-      let t : length (set (set d n x) (n + 1) y) ≡ length d = length-set (set d n x) (n + 1) y ∙ s in
-      let e : n + 2 + 1 ≡ n + 3 = omega arith in
-      let p : Put [] (n + 2 + 1) (set (set (set d n x) (n + 1) y) (n + 2) z) (n + 3) (set (set (set d n x) (n + 1) y) (n + 2) z) =
-      rw e (put_none (n + 3) (set (set (set d n x) (n + 1) y) (n + 2) z)) in
-      put_two x y (z ∷ []) n d (put_one z [] (n + 2) (set (set d n x) (n + 1) y) p (omega arith)) (omega arith)
+  pub put_seen : {x : ℕ} → u ≡ false → x ≡ max low (first_of e) → n + 3 ≤ length d →
+      Put (seen_words e low high goal) n d (n + 3) (set (set (set d n x) (n + 1) high) (n + 2) goal)
+  put_seen {x} k m h = rw (sym j ∙ k, ← m) (three_put n x high goal d h)
 
-pub ruleset storing = (rules, second_place, third_place, three_put)
-
--- .. or left out
-
-module _ (t e : Bool) (low high goal n : ℕ) (d : List ℕ) where
-  pub put_grows : t ≡ true → Put (pick t [] (seen_words e low high goal)) n d n d
-  put_grows i = rw i (put_none n d)
-
-  module _ {u : Bool} (i : t ≡ false) (j : u ≡ (ltb high (first_of e) || eqb goal (no_goal e))) where
-    pub put_unseen : u ≡ true → Put (pick t [] (seen_words e low high goal)) n d n d
-    put_unseen k = rw (i, sym j ∙ k) (put_none n d)
-
-    pub put_seen : {x r : ℕ} {new : List ℕ} → u ≡ false → x ≡ max low (first_of e) → Put (x ∷ high ∷ goal ∷ []) n d r new →
-        Put (pick t [] (seen_words e low high goal)) n d r new
-    put_seen {x} {r} {new} k m p =
-        rw (i, sym j ∙ k) (subst (λ (y : ℕ). Put (y ∷ high ∷ goal ∷ []) n d r new) m p)
-
-pub pick_true : (t : Bool) (x y : ℕ) → t ≡ true → x ≡ pick t x y
-pick_true t x y e = rw e
-
-pub pick-false : (t : Bool) (x y : ℕ) → t ≡ false → y ≡ pick t x y
-pick-false t x y e = rw e
-
-pub ruleset choosing = (rules, put_grows, put_unseen, put_seen, pick_true, pick-false)
+pub ruleset choosing = (rules, put_unseen, put_seen)
 
 -- The numbers of a row
 
@@ -149,11 +128,11 @@ module _ (e : Bool) (ts cs segs ps : List ℕ) (count : ℕ) (old : List ℕ) wh
 
   module _ {low high goal k m : ℕ} {out : List ℕ} (h : Joining e ts cs segs ps count old low high goal k m out) where
     module _ (n : k < count) where
-      pub join_turn : {value first r : ℕ} {t : Bool} {new : List ℕ} → value ≡ goal_of e ts cs (get_or ps k 0) →
+      join_next : {value first r : ℕ} {t : Bool} {new : List ℕ} → value ≡ goal_of e ts cs (get_or ps k 0) →
           t ≡ (eqb (suc high) (get_or segs (2 * k) 0) && eqb goal value) →
           Put (pick t [] (seen_words e low high goal)) m out r new → first ≡ pick t low (get_or segs (2 * k) 0) →
           Joining e ts cs segs ps count old first (get_or segs (2 * k + 1) 0) value (k + 1) r new
-      join_turn {value} {first} {r} {t} {new} v i p f =
+      join_next {value} {first} {r} {t} {new} v i p f =
           let next : Range = range_of (get_or segs (2 * k) 0) (get_or segs (2 * k + 1) 0) value in
           let rest : Row = aimed (goal_of e ts cs) segs ps (count - (k + 1)) (k + 1) in
           let is : numbers (seen e (join_to (range_of low high goal) (aimed (goal_of e ts cs) segs ps (count - k) k))) ≡
@@ -174,6 +153,17 @@ module _ (e : Bool) (ts cs segs ps : List ℕ) (count : ℕ) (old : List ℕ) wh
                 (subst (λ (l : List ℕ). Going (numbers (joined e ts cs segs ps count)) 0 old l m out) is h.going);
           }
 
+      module _ {value : ℕ} {t : Bool} (v : value ≡ goal_of e ts cs (get_or ps k 0)) (i : t ≡ (eqb (suc high) (get_or segs (2 * k) 0) && eqb goal value)) where
+        pub join_grow : t ≡ true → Joining e ts cs segs ps count old low (get_or segs (2 * k + 1) 0) goal (k + 1) m out
+        join_grow y =
+            let same : goal ≡ value = eqb-true goal value ((and-eq-true_iff (eqb (suc high) (get_or segs (2 * k) 0)) (eqb goal value)).0 (sym i ∙ y)).1 in
+            subst (λ (x : ℕ). Joining e ts cs segs ps count old low (get_or segs (2 * k + 1) 0) x (k + 1) m out) (sym same)
+            (join_next v i (rw y (put_none m out)) (rw y))
+
+        pub join_turn : {r : ℕ} {new : List ℕ} → t ≡ false → Put (seen_words e low high goal) m out r new →
+            Joining e ts cs segs ps count old (get_or segs (2 * k) 0) (get_or segs (2 * k + 1) 0) value (k + 1) r new
+        join_turn y p = join_next v i (rw y p) (rw y)
+
     pub join_done : {r : ℕ} {new : List ℕ} → count ≤ k → Put (seen_words e low high goal) m out r new → Put (numbers (joined e ts cs segs ps count)) 0 old r new
     join_done n p =
         let is : numbers (seen e (join_to (range_of low high goal) (aimed (goal_of e ts cs) segs ps (count - k) k))) ≡ seen_words e low high goal ++ [] =
@@ -183,4 +173,4 @@ module _ (e : Bool) (ts cs segs ps : List ℕ) (count : ℕ) (old : List ℕ) wh
         (going_turn (numbers (joined e ts cs segs ps count)) 0 old [] m out (seen_words e low high goal) p
         (subst (λ (l : List ℕ). Going (numbers (joined e ts cs segs ps count)) 0 old l m out) is h.going))
 
-pub ruleset joining = (rules, join-start, join_turn, join_done)
+pub ruleset joining = (rules, join-start, join_grow, join_turn, join_done)

@@ -5,65 +5,64 @@ use mathlib.Core.Bool.{true, false}
 use mathlib.Core.List.{List, [], ◌∷◌, ◌++◌, append-nil, append_assoc}
 use native.Mathlib.Omega.{arith}
 use borrow.Author.Rules.{rules}
-use lib.ListN.{length, get_or, set, replicate, length-append, length-replicate}
+use lib.Seq.{length-take-le}
+use lib.ListN.{length, get_or, take, drop, replicate, length-drop, length-append, length-replicate}
 use Rattle.refusal.specs.Fixed.{DEAD-STATE}
 use Rattle.refusal.specs.Said.{Said, ok}
 use Rattle.law_tables.specs.Table.{Range}
 use Rattle.law_lookups.specs.Looks.{goal_at}
-use Rattle.buffer.specs.Over.{Put}
-use Rattle.buffer.proofs.Going.{Going, going_start, going_done, going_turn, going_put, going_place, put_size}
+use Rattle.buffer.specs.Over.{lay, Put}
+use Rattle.buffer.proofs.Overs.{over-front}
+use borrow.Rule.Slice.PartMut.{put_mid}
+use Rattle.buffer.proofs.Going.{Going, going_start, going_done, going_turn, put_size}
 use Rattle.law_rows.specs.Row.{Row, Sorted, values, numbers, ascii_part}
 use Rattle.law_rows.proofs.Searches.{look_hit, look_gap, look_past, sorted_weaken}
 use Rattle.law_rows.proofs.Parts.{length-values}
 use Rattle.row_goals.specs.Goals.{target_at}
-use Rattle.row_build.specs.Aimed.{range_of, aimed, joined, Stretch, targets_of, Ordered, Split, Filled}
+use Rattle.row_build.specs.Aimed.{range_of, aimed, joined, targets_of, Ordered, Split, Filled}
 use Rattle.row_build.proofs.Aiming.{aimed_turn, aimed_done, aimed_all}
 
--- One number, many times
+-- One number, many times: `fill` writes it over a part
 
-many_turn : (n m x : ℕ) → m < n → replicate (n - m) x ≡ x ∷ replicate (n - (m + 1)) x
-many_turn n m x h = let e : n - m ≡ suc (n - (m + 1)) = omega arith in rw e
-
-many-none : (n m x : ℕ) → n ≤ m → replicate (n - m) x ≡ []
-many-none n m x h = let e : n - m ≡ 0 = omega arith in rw e
-
-module _ (n end x : ℕ) (old : List ℕ) where
-  pub fill_start : (n ≤ end) × (end ≤ length old) → Going (replicate (end - n) x) n old (replicate (end - n) x) n old
-  fill_start h = going_start (replicate (end - n) x) n old (omega (arith, length-replicate (end - n) x))
-
-  module _ (m : ℕ) (out : List ℕ) where
-    pub fill_place : m < end → Going (replicate (end - n) x) n old (replicate (end - m) x) m out → m < length out
-    fill_place h g = going_place (replicate (end - n) x) n old (replicate (end - (m + 1)) x) m out x (rw (many_turn end m x h) at g)
-
-    pub fill_turn : m < end → Going (replicate (end - n) x) n old (replicate (end - m) x) m out →
-        Going (replicate (end - n) x) n old (replicate (end - (m + 1)) x) (m + 1) (set out m x)
-    fill_turn h g = going_put (replicate (end - n) x) n old (replicate (end - (m + 1)) x) m out x (rw (many_turn end m x h) at g)
-
-    pub fill_done : (n ≤ end) × (end ≤ length old) → end ≤ m → Going (replicate (end - n) x) n old (replicate (end - m) x) m out → Stretch x n end old m out
-    fill_done s h g =
-        let put : Put (replicate (end - n) x) n old m out = going_done (replicate (end - n) x) n old (rw (many-none end m x h) at g) in
-        record { put = put; behind = omega (arith, put.next, s.0, length-replicate (end - n) x) }
-
-pub ruleset filling = (rules, fill_start, fill_place, fill_turn, fill_done)
+part_filled : (n k x : ℕ) (d xs : List ℕ) → n + k ≤ length d → xs ≡ replicate (length (take k (drop n d))) x → Put (replicate k x) n d (n + k) (put_mid n k d xs)
+unfolding lay
+part_filled n k x d xs h e' =
+    let l : length (replicate k x) ≡ k = length-replicate k x in
+    let e : xs ≡ replicate k x = e' ∙ ap (λ (j : ℕ). replicate j x) (length-take-le k (drop n d) (omega (arith, length-drop n d))) in
+    record {
+      next = ap (λ (j : ℕ). n + j) (sym l);
+      is = rw e
+          (ap (λ (j : ℕ). take n d ++ (replicate k x ++ drop j (drop n d))) (sym l)
+          ∙ ap (λ (ys : List ℕ). take n d ++ ys) (sym (over-front (replicate k x) (drop n d) (omega (arith, length-drop n d)))));
+    }
 
 -- Two of them, for one range
 
-pub two_fills : (n low high goal : ℕ) (d : List ℕ) {e m f r : ℕ} {new last : List ℕ} → (n ≤ min low 128) × (low ≤ high) → 128 ≤ length d →
-    e ≡ min low 128 → f ≡ min (suc high) 128 →
-    Stretch DEAD-STATE n e d m new → Stretch goal m f new r last → Put (targets_of n low high goal) n d r last
+pub two_fills : (n low high goal : ℕ) (d : List ℕ) {e f : ℕ} {xs ys : List ℕ} → (n ≤ min low 128) × (low ≤ high) → 128 ≤ length d →
+    e ≡ min low 128 → f ≡ min (suc high) 128 → xs ≡ replicate (length (take (e - n) (drop n d))) DEAD-STATE →
+    ys ≡ replicate (length (take (f - e) (drop e (put_mid n (e - n) d xs)))) goal →
+    Put (targets_of n low high goal) n d f (put_mid e (f - e) (put_mid n (e - n) d xs) ys)
 unfolding targets_of
-two_fills n low high goal d {e} {m} {f} {r} {new} {last} o h p q k v =
-    let s : m ≡ min low 128 = k.behind ∙ p in
+two_fills n low high goal d {e} {f} {xs} {ys} o h p q i j =
     let a : List ℕ = replicate (min low 128 - n) DEAD-STATE in
     let b : List ℕ = replicate (min (suc high) 128 - min low 128) goal in
-    let k' : Put a n d m new = rw p at k.put in
-    let v' : Put b m new r last =
-    subst (λ x. Put (replicate (min (suc high) 128 - x) goal) m new r last) s (subst (λ x. Put (replicate (x - m) goal) m new r last) q v.put) in
+    let new : List ℕ = put_mid n (e - n) d xs in
+    let m : n + (e - n) ≡ e = omega (arith, o.0) in
+    let r : e + (f - e) ≡ f = omega (arith, o.1) in
+    let u : Put (replicate (e - n) DEAD-STATE) n d (n + (e - n)) new = part_filled n (e - n) DEAD-STATE d xs (omega (arith, o.0)) i in
+    let k : Put a n d e new =
+    subst (λ (x : ℕ). Put (replicate (x - n) DEAD-STATE) n d e new) p (subst (λ (x : ℕ). Put (replicate (e - n) DEAD-STATE) n d x new) m u) in
+    let w : Put (replicate (f - e) goal) e new (e + (f - e)) (put_mid e (f - e) new ys) =
+    part_filled e (f - e) goal new ys (omega (arith, put_size u, o.1)) j in
+    let v : Put b e new f (put_mid e (f - e) new ys) =
+    subst (λ (x : ℕ). Put (replicate (min (suc high) 128 - x) goal) e new f (put_mid e (f - e) new ys)) p
+    (subst (λ (x : ℕ). Put (replicate (x - e) goal) e new f (put_mid e (f - e) new ys)) q
+    (subst (λ (x : ℕ). Put (replicate (f - e) goal) e new x (put_mid e (f - e) new ys)) r w)) in
     let fits : n + length (a ++ b) ≤ length d =
     omega (arith, o.0, o.1, length-append a b, length-replicate (min low 128 - n) DEAD-STATE, length-replicate (min (suc high) 128 - min low 128) goal) in
     let z : b ≡ b ++ [] = sym (append-nil b) in
-    let half : Going (a ++ b) n d b m new = going_turn (a ++ b) n d b n d a k' (going_start (a ++ b) n d fits) in
-    going_done (a ++ b) n d (going_turn (a ++ b) n d [] m new b v' (subst (λ x. Going (a ++ b) n d x m new) z half))
+    let half : Going (a ++ b) n d b e new = going_turn (a ++ b) n d b n d a k (going_start (a ++ b) n d fits) in
+    going_done (a ++ b) n d (going_turn (a ++ b) n d [] e new b v (subst (λ x. Going (a ++ b) n d x e new) z half))
 
 pub ruleset ranging = (rules, two_fills)
 
@@ -197,15 +196,17 @@ module _ (ts segs ps : List ℕ) (count : ℕ) (old : List ℕ) where
                 (subst (λ (y : List ℕ). Going all 0 old y m out) is h.going);
           }
 
-    pub ascii_done : {r : ℕ} {new : List ℕ} → count ≤ k → Stretch DEAD-STATE m 128 out r new → Put (ascii_part (aimed (target_at ts) segs ps count 0)) 0 old r new
+    pub ascii_done : {xs : List ℕ} → count ≤ k → xs ≡ replicate (length (take (128 - m) (drop m out))) DEAD-STATE →
+        put_mid m (128 - m) out xs ≡ lay 0 (ascii_part (aimed (target_at ts) segs ps count 0)) old
     unfolding goal_at
-    ascii_done n p =
+    ascii_done {xs} n e =
         let is : values (goal_at DEAD-STATE (aimed (target_at ts) segs ps (count - k) k)) m (128 - m) ≡ replicate (128 - m) DEAD-STATE ++ [] =
         ap (λ (rs : Row). values (goal_at DEAD-STATE rs) m (128 - m)) (aimed_done (target_at ts) segs ps count k n)
         ∙ values_one (goal_at DEAD-STATE []) DEAD-STATE m (128 - m) (λ p l h. refl)
         ∙ sym (append-nil (replicate (128 - m) DEAD-STATE)) in
-        going_done all 0 old
-        (going_turn all 0 old [] m out (replicate (128 - m) DEAD-STATE) p.put (subst (λ (y : List ℕ). Going all 0 old y m out) is h.going))
+        (going_done all 0 old
+        (going_turn all 0 old [] m out (replicate (128 - m) DEAD-STATE) (part_filled m (128 - m) DEAD-STATE out xs (omega (arith, h.most, h.fits)) e)
+        (subst (λ (y : List ℕ). Going all 0 old y m out) is h.going))).is
 
 pub ruleset targeting =
     (rules, ascii_start, ascii_low, ascii_high, ascii_turn, ascii_done)

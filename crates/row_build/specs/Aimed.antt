@@ -38,11 +38,6 @@ seen_words e low high goal = pick (ltb high (first_of e) || eqb goal (no_goal e)
 abbrev pub joined : Bool → List ℕ → List ℕ → List ℕ → List ℕ → ℕ → Row
 joined e targets conts segments places count = seen e (join_to (range_of 0 0 (no_goal e)) (aimed (goal_of e targets conts) segments places count 0))
 
--- x was written over `old` from n to before `end`, where r is
-pub record Stretch (x n end : ℕ) (old : List ℕ) (r : ℕ) (new : List ℕ) : Type 0 where
-  pub put : Put (replicate (end - n) x) n old r new
-  pub behind : r ≡ end
-
 -- the ascii targets from n on to behind a range: dead ones before it, then its own
 unfoldable pub targets_of : ℕ → ℕ → ℕ → ℕ → List ℕ
 targets_of n low high goal = replicate (min low 128 - n) DEAD-STATE ++ replicate (min (suc high) 128 - min low 128) goal

@@ -7,95 +7,50 @@
 // empty. The answer is 3 numbers for the wide row, and 0 for the escape row.
 #![tactic(auto)]
 
-ghost use Rattle.std.specs.Prelude.{◌≡◌, true, false, [], ◌∷◌, suc, min, ◌+◌, ◌≤◌, length};
-ghost use Rattle.refusal.specs.Lists.{pick};
-ghost use Rattle.buffer.specs.Over.{Put, zeros};
+ghost use Rattle.std.specs.Prelude.{◌≡◌, true, min, ◌+◌, ◌≤◌, length};
+ghost use Rattle.buffer.specs.Over.{lay, Put, zeros};
 ghost use Rattle.list_distinct.specs.Answer.{parse_places};
 ghost use Rattle.law_rows.specs.Row.{numbers, ascii_part};
 ghost use Rattle.row_goals.specs.Goals.{target_at};
-ghost use Rattle.row_goals.specs.Edges.{no_goal};
 ghost use Rattle.row_build.specs.Answer.{lent, too_short, parse_rows, Builds};
-ghost use Rattle.row_build.specs.Aimed.{aimed, seen_words, joined, Stretch, targets_of, Spaced, Ordered, Ready, Split, Filled};
+ghost use Rattle.row_build.specs.Aimed.{aimed, seen_words, joined, targets_of, Spaced, Ordered, Ready, Split, Filled};
 ghost use Rattle.row_build.specs.Asked.{Zeroed, Cleared, Asked, Prepared};
 
 use list_distinct::Places;
-use refusal::{DEAD_STATE, NONE, Refusal};
+use refusal::{DEAD_STATE, Refusal};
 
 // Three numbers for each of the most ranges that a row may have, and one range to spare.
 const NUMBERS: usize = 6144;
 
-fn put_range(out: &mut [u32], n: usize, low: u32, high: u32, goal: u32) -> usize
-    requires { n + 3 ≤ length out.old }
-    ensures { Put (low ∷ high ∷ goal ∷ []) n out.old result out.new }
-{
-    out[n] = low;
-    out[n + 1] = high;
-    out[n + 2] = goal;
-    n + 3
-}
-
-// A range that grows is not written yet, and one that is left out not at all.
-fn put_unless(
-    grows: bool,
-    escape: bool,
-    out: &mut [u32],
-    n: usize,
+// A range of a row.
+#[derive(Clone, Copy)]
+struct Range {
     low: u32,
     high: u32,
     goal: u32,
-) -> usize
-    requires { n + 3 ≤ length out.old }
-    ensures { Put (pick grows [] (seen_words escape low high goal)) n out.old result out.new }
-{
-    if grows {
-        return n;
-    }
-    if row_goals::unseen(escape, high, goal) {
-        return n;
-    }
-    put_range(out, n, row_goals::seen_low(escape, low), high, goal)
 }
 
-fn first_low(grows: bool, low: u32, next: u32) -> u32
-    ensures { result ≡ pick grows low next }
-{
-    if grows {
-        return low;
+impl Range {
+    // Writes the range, so far as it is seen in its row: one that is left out not at all.
+    fn put(self, escape: bool, out: &mut [u32], n: usize) -> usize
+        requires { n + 3 ≤ length out.old }
+        ensures { Put (seen_words escape self.low self.high self.goal) n out.old result out.new }
+    {
+        if row_goals::unseen(escape, self.high, self.goal) {
+            return n;
+        }
+        out[n] = row_goals::seen_low(escape, self.low);
+        out[n + 1] = self.high;
+        out[n + 2] = self.goal;
+        n + 3
     }
-    next
 }
 
-// The place of x among the 128 ascii targets, or their end ..
+// The place of x among the 128 ascii targets, or their end.
 fn edge(x: u32) -> usize
     ensures { result ≡ min x 128 }
 {
-    if x < 128 {
-        return x as usize;
-    }
-    128
-}
-
-// .. and the place behind x.
-fn edge_behind(x: u32) -> usize
-    ensures { result ≡ min (suc x) 128 }
-{
-    if x < 127 {
-        return (x as usize) + 1;
-    }
-    128
-}
-
-// Writes one target from n to before `end`.
-fn fill(out: &mut [u16], n: usize, end: usize, x: u16) -> usize
-    requires { (n ≤ end) × (end ≤ length out.old) }
-    ensures { Stretch x n end out.old result out.new }
-{
-    let mut m = n;
-    while m < end {
-        out[m] = x;
-        m += 1;
-    }
-    m
+    x.min(128) as usize
 }
 
 // The targets of one range, behind dead ones from n on, so far as they are ascii.
@@ -104,124 +59,11 @@ fn put_targets(out: &mut [u16], n: usize, low: u32, high: u32, goal: u16) -> usi
     requires fits { 128 ≤ length out.old }
     ensures { Put (targets_of n low high goal) n out.old result out.new }
 {
-    let m = fill(out, n, edge(low), DEAD_STATE);
-    fill(out, m, edge_behind(high), goal)
-}
-
-fn no_goal(escape: bool) -> u32
-    ensures { result ≡ no_goal escape }
-{
-    if escape {
-        return NONE;
-    }
-    DEAD_STATE as u32
-}
-
-// The ascii targets of `count` segments: 128 of them.
-fn put_ascii(
-    segments: &[u32],
-    places: &[u32],
-    count: usize,
-    targets: &[u16],
-    out: &mut [u16],
-) -> usize
-    requires { Ordered segments.now places.now count out.old }
-    ensures { Put (ascii_part (aimed (target_at targets.now) segments.now places.now count 0)) 0
-        out.old result out.new }
-{
-    let mut k: usize = 0;
-    let mut m: usize = 0;
-    while k < count {
-        let at = 2 * k;
-        m = put_targets(
-            out,
-            m,
-            segments[at],
-            segments[at + 1],
-            row_goals::target_at(targets, places[k]),
-        );
-        k += 1;
-    }
-    fill(out, m, 128, DEAD_STATE)
-}
-
-// Writes the row of `count` segments, of targets from 128 on or of continuations, joined, and answers how many numbers it has. The range that may still grow
-// is held in locals, at first one without a goal; its high and goal are always the last segment's.
-fn put_joined(
-    segments: &[u32],
-    places: &[u32],
-    count: usize,
-    targets: &[u16],
-    continuations: &[u32],
-    escape: bool,
-    out: &mut [u32],
-) -> usize
-    requires { Spaced segments.now places.now count out.old }
-    ensures { Put
-        (numbers (joined escape targets.now continuations.now segments.now places.now count)) 0
-        out.old result out.new }
-{
-    let mut low: u32 = 0;
-    let mut high: u32 = 0;
-    let mut goal = no_goal(escape);
-    let mut k: usize = 0;
-    let mut m: usize = 0;
-    while k < count {
-        let at = 2 * k;
-        let next = segments[at];
-        let value = row_goals::goal_of(targets, continuations, escape, places[k]);
-        let grows = row_goals::touches(high, goal, next, value);
-        m = put_unless(grows, escape, out, m, low, high, goal);
-        low = first_low(grows, low, next);
-        high = segments[at + 1];
-        goal = value;
-        k += 1;
-    }
-    put_unless(false, escape, out, m, low, high, goal)
-}
-
-// Parts the row of targets at 128, and joins what lies behind. Answers how many numbers the wide row has.
-fn split_rows(
-    segments: &[u32],
-    places: &[u32],
-    count: usize,
-    targets: &[u16],
-    continuations: &[u32],
-    ascii: &mut [u16],
-    wide: &mut [u32],
-) -> usize
-    requires narrow { Ordered segments.now places.now count ascii.old }
-    requires broad { Spaced segments.now places.now count wide.old }
-    ensures { Split targets.now continuations.now segments.now places.now count
-        ascii.old ascii.new wide.old result wide.new }
-{
-    put_ascii(segments, places, count, targets, ascii);
-    put_joined(segments, places, count, targets, continuations, false, wide)
-}
-
-// Joins the row of continuations, and answers how many numbers it has.
-fn merge_escape_ranges(
-    segments: &[u32],
-    places: &[u32],
-    count: usize,
-    targets: &[u16],
-    continuations: &[u32],
-    escape: &mut [u32],
-) -> usize
-    requires { Spaced segments.now places.now count escape.old }
-    ensures { Put
-        (numbers (joined true targets.now continuations.now segments.now places.now count)) 0
-        escape.old result escape.new }
-{
-    put_joined(
-        segments,
-        places,
-        count,
-        targets,
-        continuations,
-        true,
-        escape,
-    )
+    let start = edge(low);
+    let end = edge(high.saturating_add(1));
+    out[n..start].fill(DEAD_STATE);
+    out[start..end].fill(goal);
+    end
 }
 
 // How many numbers the wide row and the escape row take.
@@ -231,35 +73,108 @@ pub struct Rows {
     pub escape: usize,
 }
 
-fn fill_rows(
-    segments: &[u32],
-    places: &[u32],
-    count: usize,
-    targets: &[u16],
-    continuations: &[u32],
-    ascii: &mut [u16],
-    wide: &mut [u32],
-    escape: &mut [u32],
-) -> Rows
-    requires { Ready segments.now places.now count ascii.old wide.old escape.old }
-    ensures { Filled result targets.now continuations.now segments.now places.now count
-        ascii.old ascii.new wide.old wide.new escape.old escape.new }
-{
-    let wide = split_rows(segments, places, count, targets, continuations, ascii, wide);
-    let escape = merge_escape_ranges(segments, places, count, targets, continuations, escape);
-    Rows { wide, escape }
+// The segments of a list: the first and the last point of each, and the place of its mask among the distinct ones; and what was given each place.
+#[derive(Clone, Copy)]
+struct Segments<'a> {
+    points: &'a [u32],
+    places: &'a [u32],
+    targets: &'a [u16],
+    continuations: &'a [u32],
+}
+
+impl<'a> Segments<'a> {
+    // The ascii targets: 128 of them.
+    fn put_ascii(&self, out: &mut [u16])
+        requires { Ordered self.now.points.now self.now.places.now (length self.now.places.now)
+            out.old }
+        ensures { out.new ≡
+            lay 0 (ascii_part
+            (aimed (target_at self.now.targets.now) self.now.points.now self.now.places.now
+            (length self.now.places.now) 0)) out.old }
+    {
+        let mut m = 0;
+        for (k, place) in self.places.iter().enumerate() {
+            let target = row_goals::target_at(self.targets, *place);
+            m = put_targets(out, m, self.points[2 * k], self.points[2 * k + 1], target);
+        }
+        out[m..128].fill(DEAD_STATE);
+    }
+
+    // Writes the row, of targets from 128 on or of continuations, joined, and answers how many numbers it has. The range that may still grow is held
+    // back, at first one without a goal; its high and goal are always the last segment's.
+    fn put_joined(&self, escape: bool, out: &mut [u32]) -> usize
+        requires { Spaced self.now.points.now self.now.places.now (length self.now.places.now)
+            out.old }
+        ensures { Put
+            (numbers
+            (joined escape self.now.targets.now self.now.continuations.now self.now.points.now
+            self.now.places.now (length self.now.places.now))) 0 out.old result out.new }
+    {
+        let mut held = Range {
+            low: 0,
+            high: 0,
+            goal: row_goals::no_goal(escape),
+        };
+        let mut m = 0;
+        for (k, place) in self.places.iter().enumerate() {
+            let next = Range {
+                low: self.points[2 * k],
+                high: self.points[2 * k + 1],
+                goal: row_goals::goal_of(self.targets, self.continuations, escape, *place),
+            };
+            if row_goals::touches(held.high, held.goal, next.low, next.goal) {
+                held.high = next.high;
+            } else {
+                m = held.put(escape, out, m);
+                held = next;
+            }
+        }
+        held.put(escape, out, m)
+    }
+
+    // Parts the row of targets at 128, and joins what lies behind. Answers how many numbers the wide row has.
+    fn split_rows(&self, ascii: &mut [u16], wide: &mut [u32]) -> usize
+        requires narrow { Ordered self.now.points.now self.now.places.now
+            (length self.now.places.now) ascii.old }
+        requires broad { Spaced self.now.points.now self.now.places.now
+            (length self.now.places.now) wide.old }
+        ensures { Split self.now.targets.now self.now.continuations.now self.now.points.now
+            self.now.places.now (length self.now.places.now)
+            ascii.old ascii.new wide.old result wide.new }
+    {
+        self.put_ascii(ascii);
+        self.put_joined(false, wide)
+    }
+
+    // Joins the row of continuations, and answers how many numbers it has.
+    fn merge_escape_ranges(&self, escape: &mut [u32]) -> usize
+        requires { Spaced self.now.points.now self.now.places.now (length self.now.places.now)
+            escape.old }
+        ensures { Put
+            (numbers
+            (joined true self.now.targets.now self.now.continuations.now self.now.points.now
+            self.now.places.now (length self.now.places.now))) 0 escape.old result escape.new }
+    {
+        self.put_joined(true, escape)
+    }
+
+    fn fill_rows(&self, ascii: &mut [u16], wide: &mut [u32], escape: &mut [u32]) -> Rows
+        requires { Ready self.now.points.now self.now.places.now (length self.now.places.now)
+            ascii.old wide.old escape.old }
+        ensures { Filled result self.now.targets.now self.now.continuations.now
+            self.now.points.now self.now.places.now (length self.now.places.now)
+            ascii.old ascii.new wide.old wide.new escape.old escape.new }
+    {
+        let wide = self.split_rows(ascii, wide);
+        let escape = self.merge_escape_ranges(escape);
+        Rows { wide, escape }
+    }
 }
 
 fn too_short(ascii: usize, wide: usize, escape: usize) -> bool
     ensures { result ≡ too_short ascii wide escape }
 {
-    if ascii < 128 {
-        return true;
-    }
-    if wide < NUMBERS {
-        return true;
-    }
-    escape < NUMBERS
+    ascii < 128 || wide < NUMBERS || escape < NUMBERS
 }
 
 fn clear_targets(targets: &mut [u16])
@@ -403,16 +318,15 @@ pub fn build_rows(
             segments: count,
             masks: _,
             words: _,
-        } => Ok(fill_rows(
-            segments,
-            &places,
-            count,
-            targets,
-            continuations,
-            ascii,
-            wide,
-            escape,
-        )),
+        } => {
+            let placed = Segments {
+                points: &segments[..2 * count],
+                places: &places[..count],
+                targets,
+                continuations,
+            };
+            Ok(placed.fill_rows(ascii, wide, escape))
+        }
         Places::Refused(r) => Err(r),
     }
 }

@@ -9,69 +9,52 @@ ghost use Rattle.row_goals.specs.Goals.{target_at, goal_of, differs, refusal_of}
 
 use refusal::{DEAD_STATE, NONE, ROOM, TARGETS};
 
+// The goal of a segment that is left out.
+pub fn no_goal(escape: bool) -> u32
+    ensures { result ≡ no_goal escape }
+{
+    if escape { NONE } else { u32::from(DEAD_STATE) }
+}
+
+// A row of targets begins at 128.
+fn first_of(escape: bool) -> u32
+    ensures { result ≡ first_of escape }
+{
+    if escape { 0 } else { 128 }
+}
+
 // Does a range that starts at `next` lie right behind a high, with the same goal?
 pub fn touches(high: u32, goal: u32, next: u32, value: u32) -> bool
     ensures { result ≡ (eqb (suc high) next && eqb goal value) }
 {
-    if high < next {
-        if next - high == 1 {
-            return goal == value;
-        }
-    }
-    false
+    high < next && next - high == 1 && goal == value
 }
 
-// Is a range left out of its row? One without a goal is, and one that ends before the row begins.
+// Is a range left out of its row? One that ends before the row begins is, and one without a goal.
 pub fn unseen(escape: bool, high: u32, goal: u32) -> bool
     ensures { result ≡ (ltb high (first_of escape) || eqb goal (no_goal escape)) }
 {
-    if escape {
-        return goal == NONE;
-    }
-    if high < 128 {
-        return true;
-    }
-    goal == DEAD_STATE as u32
+    high < first_of(escape) || goal == no_goal(escape)
 }
 
-// A row of targets begins at 128.
+// From where on a range is seen in its row.
 pub fn seen_low(escape: bool, low: u32) -> u32
     ensures { result ≡ max low (first_of escape) }
 {
-    if escape {
-        return low;
-    }
-    if low < 128 {
-        return 128;
-    }
-    low
+    low.max(first_of(escape))
 }
 
 // What a place among the distinct masks was given; behind the last, nothing was.
 pub fn target_at(targets: &[u16], place: u32) -> u16
     ensures { result ≡ target_at targets.now place }
 {
-    let k = place as usize;
-    if k < targets.len() {
-        return targets[k];
-    }
-    DEAD_STATE
+    targets.get(place as usize).copied().unwrap_or(DEAD_STATE)
 }
 
 fn continuation_at(continuations: &[u32], place: u32) -> u32
     ensures { result ≡ get_or continuations.now place NONE }
 {
-    let k = place as usize;
-    if k < continuations.len() {
-        return continuations[k];
-    }
-    NONE
-}
-
-fn number(x: u16) -> u32
-    ensures { result ≡ x }
-{
-    x as u32
+    continuations.get(place as usize).copied().unwrap_or(NONE)
 }
 
 // The goal of a segment whose mask has that place: its target, or in an escape row its continuation.
@@ -79,43 +62,24 @@ pub fn goal_of(targets: &[u16], continuations: &[u32], escape: bool, place: u32)
     ensures { result ≡ goal_of escape targets.now continuations.now place }
 {
     let target = target_at(targets, place);
-    if escape {
-        if target == DEAD_STATE {
-            return NONE;
-        }
-        return continuation_at(continuations, place);
+    if !escape {
+        return u32::from(target);
     }
-    number(target)
+    if target == DEAD_STATE {
+        return NONE;
+    }
+    continuation_at(continuations, place)
 }
 
-// Do targets or continuations differ in number from the d distinct masks?
-fn differ(d: usize, targets: usize, continuations: usize) -> bool
-    ensures { result ≡ differs d targets continuations }
+// What stands in the way of the rows once the records are read: targets or continuations that differ in number from the d distinct masks, or buffers too short.
+pub fn refusal_for(d: usize, targets: usize, continuations: usize, short: bool) -> Option<u32>
+    ensures { result ≡ refusal_of (differs d targets continuations) short }
 {
-    if targets != d {
-        return true;
-    }
-    if continuations != d {
-        return true;
-    }
-    false
-}
-
-fn refusal_of(other: bool, short: bool) -> Option<u32>
-    ensures { result ≡ refusal_of other short }
-{
-    if other {
+    if targets != d || continuations != d {
         return Some(TARGETS);
     }
     if short {
         return Some(ROOM);
     }
     None
-}
-
-// What stands in the way of the rows once the records are read.
-pub fn refusal_for(d: usize, targets: usize, continuations: usize, short: bool) -> Option<u32>
-    ensures { result ≡ refusal_of (differs d targets continuations) short }
-{
-    refusal_of(differ(d, targets, continuations), short)
 }
