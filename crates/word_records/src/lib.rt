@@ -9,7 +9,6 @@ ghost use Rattle.word_reader.specs.Records.{escape_at, config_at, context_at, co
 ghost use Rattle.word_reader.specs.Parse.{many, section};
 
 use refusal::{NONE, Refusal};
-use run_shape::Answered;
 use word_reader::MAX_TARGET;
 
 // A mode: start state, or NONE.
@@ -54,12 +53,8 @@ const ROW_WORDS: usize = 64;
 pub fn read_run(words: &[u32], at: usize) -> Result<usize, Refusal>
     ensures { result ≡ run_at words.now at }
 {
-    let read = run_words::read_serialized(words, at);
-    let answer = read.answer;
-    match answer {
-        Answered::Ran(kind) => Ok(at + run_shape::serialized_words(kind)),
-        Answered::Refused(r) => Err(r),
-    }
+    let run = run_words::read_serialized(words, at)?;
+    Ok(at + run_shape::serialized_words(run))
 }
 
 // An ASCII row.
