@@ -4,10 +4,8 @@
 
 ghost use Rattle.std.specs.Prelude.{◌≡◌};
 ghost use Rattle.run_class.specs.Byte.{byte_class, byte_number};
-ghost use Rattle.run_class.specs.Class.{class_number, class_said};
+ghost use Rattle.run_class.specs.Class.{class_said};
 ghost use Rattle.c_class.specs.Answers.{class_in_c};
-
-use run_class::{AsciiRangeClass, ByteClass, RangeClass};
 
 // The class of ranges: 0 whitespace, 1 number, 2 identifier, 3 other.
 #[repr(C)]
@@ -19,38 +17,12 @@ pub struct CClass {
     pub class: u32,
 }
 
-fn byte_number(class: ByteClass) -> u32
-    ensures { result ≡ byte_number class }
-{
-    match class {
-        ByteClass::Digit => 0,
-        ByteClass::HexLetter => 1,
-        ByteClass::Letter => 2,
-        ByteClass::Whitespace => 3,
-        ByteClass::Underscore => 4,
-        ByteClass::Quote => 5,
-        ByteClass::Dollar => 6,
-        ByteClass::Other => 7,
-    }
-}
-
 // The class of a byte: 0 digit, 1 hex letter, 2 other letter, 3 whitespace, 4 underscore, 5 quote, 6 dollar, 7 other.
 #[unsafe(no_mangle)]
 pub extern "C" fn lexer_dfa_class_of_byte(byte: u8) -> u32
     ensures { result ≡ byte_number (byte_class byte) }
 {
-    byte_number(run_class::class_of_byte(byte))
-}
-
-fn class_number(class: AsciiRangeClass) -> u32
-    ensures { result ≡ class_number class }
-{
-    match class {
-        AsciiRangeClass::Whitespace => 0,
-        AsciiRangeClass::Number => 1,
-        AsciiRangeClass::Identifier => 2,
-        AsciiRangeClass::Other => 3,
-    }
+    run_class::class_of_byte(byte) as u32
 }
 
 // The class of the ranges that the three words of a kind-5 run hold.
@@ -58,15 +30,14 @@ fn class_number(class: AsciiRangeClass) -> u32
 pub extern "C" fn lexer_dfa_class(words: &[u32]) -> CClass
     ensures { result ≡ class_in_c (class_said words.now) }
 {
-    let answer = run_class::class(words);
-    match answer {
-        RangeClass::Class(class) => CClass {
+    match run_class::class(words) {
+        Ok(class) => CClass {
             number: 0,
             item: 0,
             place: 0,
-            class: class_number(class),
+            class: class as u32,
         },
-        RangeClass::Refused(refusal) => CClass {
+        Err(refusal) => CClass {
             number: refusal.number,
             item: refusal.item,
             place: refusal.place,

@@ -6,9 +6,10 @@ ghost use Rattle.std.specs.Prelude.{◌≡◌};
 ghost use Rattle.run_shape.specs.Classify.{classified};
 ghost use Rattle.run_shape.specs.Words.{read_at};
 ghost use Rattle.look_runs.specs.StateRun as scanning;
-ghost use Rattle.c_runs.specs.Answers.{answered_in_c, run_in_c};
+ghost use Rattle.c_runs.specs.Answers.{run_in_c};
 
-use run_shape::{Answered, Run, RunAnswer};
+use refusal::Refusal;
+use run_shape::AsciiRun;
 
 // A run's words: one, or three.
 #[repr(C)]
@@ -23,14 +24,12 @@ pub struct CRun {
     pub third: u32,
 }
 
-fn words_in_c(read: RunAnswer) -> CRun
-    ensures { result ≡ answered_in_c read.answer read.ranges }
+fn words_in_c(read: Result<AsciiRun, Refusal>) -> CRun
+    ensures { result ≡ run_in_c read }
 {
-    let answer = read.answer;
-    match answer {
-        Answered::Ran(kind) => {
-            let ranges = read.ranges;
-            let words = run_words::write_serialized(Run { kind, ranges });
+    match read {
+        Ok(run) => {
+            let words = run_words::write_serialized(run);
             CRun {
                 number: 0,
                 item: 0,
@@ -41,7 +40,7 @@ fn words_in_c(read: RunAnswer) -> CRun
                 third: words.third,
             }
         }
-        Answered::Refused(refusal) => CRun {
+        Err(refusal) => CRun {
             number: refusal.number,
             item: refusal.item,
             place: refusal.place,

@@ -3,10 +3,7 @@
 #![tactic(auto)]
 
 ghost use Rattle.std.specs.Prelude.{◌≡◌};
-ghost use Rattle.run_shape.specs.Scan.{said};
 ghost use Rattle.c_scan.specs.Answers.{scan_call, scan_in_c};
-
-use run_shape::{Answered, Run, Scanned};
 
 // How far a run went, and whether an exit stopped it; `ran` is 0 where there is no run. The flags are whole words, 1 or 0, so that
 // a caller that loads a word finds one stored.
@@ -21,11 +18,13 @@ pub struct CScan {
     pub found_exit: u32,
 }
 
-fn said_in_c(scanned: Scanned) -> CScan
-    ensures { result ≡ scan_in_c (said scanned) }
+// The scan of the input by the run whose words these are.
+#[unsafe(no_mangle)]
+pub extern "C" fn lexer_dfa_scan(words: &[u32], input: &[u8]) -> CScan
+    ensures { result ≡ scan_in_c (scan_call words.now input.now) }
 {
-    match scanned {
-        Scanned::NoRun => CScan {
+    match run_words::read_alone(words).map(|run| run_scan::scan_length(run, input)) {
+        Ok(None) => CScan {
             number: 0,
             item: 0,
             place: 0,
@@ -33,30 +32,15 @@ fn said_in_c(scanned: Scanned) -> CScan
             bytes: 0,
             found_exit: 0,
         },
-        Scanned::Skipped(scan) => CScan {
+        Ok(Some(scan)) => CScan {
             number: 0,
             item: 0,
             place: 0,
             ran: 1,
             bytes: scan.bytes,
-            found_exit: scan.found_exit as u32,
+            found_exit: u32::from(scan.found_exit),
         },
-    }
-}
-
-// The scan of the input by the run whose words these are.
-#[unsafe(no_mangle)]
-pub extern "C" fn lexer_dfa_scan(words: &[u32], input: &[u8]) -> CScan
-    ensures { result ≡ scan_in_c (scan_call words.now input.now) }
-{
-    let read = run_words::read_alone(words);
-    let answer = read.answer;
-    match answer {
-        Answered::Ran(kind) => {
-            let ranges = read.ranges;
-            said_in_c(run_scan::scan_length(Run { kind, ranges }, input))
-        }
-        Answered::Refused(refusal) => CScan {
+        Err(refusal) => CScan {
             number: refusal.number,
             item: refusal.item,
             place: refusal.place,

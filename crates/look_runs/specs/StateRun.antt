@@ -1,10 +1,7 @@
 -- The run of a state, and what a scan by it skips (document 01, "Lookups"). w is the room, s a state, bs the bytes of an input. Assumes nothing.
-use Rattle.std.specs.Prelude.{ℕ, List, take}
+use Rattle.std.specs.Prelude.{ℕ, Ok, Err, List, take}
 use Rattle.refusal.specs.Said.{STATE, NOT-TABLE}
-use Rattle.run_ranges.specs.declared.AsciiRanges.{AsciiRanges}
-use Rattle.run_shape.specs.declared.Answered.{Answered}
-use Rattle.run_shape.specs.declared.Answered.TheVariants.{Ran, Refused}
-use Rattle.run_shape.specs.Shape.{Got, run, refused, shape}
+use Rattle.run_shape.specs.Shape.{Got, refused, shape}
 use Rattle.run_shape.specs.Words.{read_at}
 use Rattle.run_shape.specs.Scan.{skipped}
 use Rattle.refusal.specs.Header.{RUNS-START}
@@ -16,13 +13,8 @@ not_table = refused NOT-TABLE 0
 
 -- "a number read is one its field forbids": what reading refuses is no table
 abbrev pub judged : Got → Got
-judged (run r) = run r
-judged (refused n p) = not_table
-
--- what an answer gives
-abbrev pub got_of : Answered → AsciiRanges → Got
-got_of (Ran k) rs = run (record { kind = k; ranges = rs })
-got_of (Refused r) rs = refused r.number r.place
+judged (Ok r) = Ok r
+judged (Err r) = not_table
 
 -- a run is read from its section alone, which ends at e
 unfoldable pub run_in : List ℕ → ℕ → ℕ → Got
@@ -37,5 +29,5 @@ ascii_run w s = follow (state_at w s) (λ p. run_of w s) (refused STATE 0) not_t
 
 -- "none answers "no run". Then, and on a refusal, the part handed back is empty."
 abbrev pub skipped_by : Got → List ℕ → ℕ
-skipped_by (run r) bs = skipped (shape r) bs
-skipped_by (refused n p) bs = 0
+skipped_by (Ok r) bs = skipped (shape r) bs
+skipped_by (Err r) bs = 0

@@ -3,12 +3,11 @@
 
 ghost use Rattle.std.specs.Prelude.{◌≡◌, ◌≤◌, length};
 ghost use Rattle.look_runs.specs.RunPlaces.{run_place};
-ghost use Rattle.run_shape.specs.Shape.{Gives, refused};
-ghost use Rattle.look_runs.specs.StateRun.{judged, got_of, run_in, run_of, ascii_run};
+ghost use Rattle.look_runs.specs.StateRun.{run_in, run_of, ascii_run};
 
 use refusal::{ASCII_START, NOT_TABLE, RUNS_START, Refusal, STATE};
 use room_find::Found;
-use run_shape::{Answered, RunAnswer};
+use run_shape::{AsciiRun, refuse};
 
 // Where the run with a number stands.
 pub fn find_run(room: &[u32], i: u32) -> Found
@@ -17,56 +16,35 @@ pub fn find_run(room: &[u32], i: u32) -> Found
     room_find::find_listed(room, RUNS_START, i)
 }
 
-fn refuse(number: u32) -> RunAnswer
-    ensures { Gives result (refused number 0) }
-{
-    RunAnswer {
-        answer: Answered::Refused(Refusal {
-            number,
-            item: 0,
-            place: 0,
-        }),
-        ranges: run_ranges::none(),
-    }
-}
-
-// What reading refuses is no table.
-fn judge(got: RunAnswer) -> RunAnswer
-    ensures { Gives result (judged (got_of got.answer got.ranges)) }
-{
-    let answer = got.answer;
-    match answer {
-        Answered::Ran(_) => got,
-        Answered::Refused(_) => refuse(NOT_TABLE),
-    }
-}
-
-// The run at a place, read from its section alone, which ends at `end`.
-fn read_run(room: &[u32], end: u32, at: usize) -> RunAnswer
+// The run at a place, read from its section alone, which ends at `end`. What reading refuses is no table.
+#[tactic(auto, using(crate::proofs::Laws::reading), unfolding(crate::specs::StateRun::run_in))]
+fn read_run(room: &[u32], end: u32, at: usize) -> Result<AsciiRun, Refusal>
     requires { end ≤ length room.now }
-    ensures { Gives result (run_in room.now end at) }
+    ensures { result ≡ run_in room.now end at }
 {
     let to = end as usize;
-    judge(run_words::read_serialized(&room[..to], at))
+    run_words::read_serialized(&room[..to], at).or(refuse(NOT_TABLE, 0))
 }
 
-fn run_of(room: &[u32], i: u32) -> RunAnswer
-    ensures { Gives result (run_of room.now i) }
+#[tactic(auto, using(crate::proofs::Laws::reading), unfolding(crate::specs::StateRun::run_of, room_find::specs::Room::follow))]
+fn run_of(room: &[u32], i: u32) -> Result<AsciiRun, Refusal>
+    ensures { result ≡ run_of room.now i }
 {
     match find_run(room, i) {
         Found::At(p) => read_run(room, room[ASCII_START], p),
-        Found::Absent => refuse(NOT_TABLE),
-        Found::Outside => refuse(NOT_TABLE),
+        Found::Absent => refuse(NOT_TABLE, 0),
+        Found::Outside => refuse(NOT_TABLE, 0),
     }
 }
 
 // The run of a state.
-pub fn ascii_run(room: &[u32], state: u16) -> RunAnswer
-    ensures { Gives result (ascii_run room.now state) }
+#[tactic(auto, unfolding(crate::specs::StateRun::ascii_run, room_find::specs::Room::follow))]
+pub fn ascii_run(room: &[u32], state: u16) -> Result<AsciiRun, Refusal>
+    ensures { result ≡ ascii_run room.now state }
 {
     match room_find::find_state(room, state) {
-        Found::At(_) => run_of(room, state as u32),
-        Found::Absent => refuse(STATE),
-        Found::Outside => refuse(NOT_TABLE),
+        Found::At(_) => run_of(room, u32::from(state)),
+        Found::Absent => refuse(STATE, 0),
+        Found::Outside => refuse(NOT_TABLE, 0),
     }
 }

@@ -5,21 +5,16 @@ use native.Mathlib.Omega.{arith}
 use mathlib.Core.Path.{◌≡◌, refl, sym, ap, ◌∙◌}
 use mathlib.Core.List.{List, ◌++◌, append_assoc}
 use mathlib.Core.Bool.{Bool, true, false, ◌&&◌, ◌||◌}
-use lib.Dec.{ltb, leb, eqb}
+use lib.Dec.{ltb, eqb}
 use lib.ListN.{length, get_or, take, drop, set, replicate, length-set, take-append-drop}
 use lib.Seq.{take-suc-set, drop-set-lt, drop-drop}
 use borrow.Author.Rules.{rules}
 use borrow.Author.Tests.{le-leb, lt-leb, eq-eqb, lt-ltb, le-ltb, ltb-true, ltb-false}
 use Rattle.refusal.specs.Lists.{pick}
-use Rattle.refusal.specs.declared.Refusal.{Refusal}
-use Rattle.run_shape.specs.declared.AsciiRun.{AsciiRun}
-use Rattle.run_shape.specs.declared.RunAnswer.{RunAnswer}
 use Rattle.run_shape.specs.declared.RunWords.{RunWords}
-use Rattle.run_shape.specs.declared.Answered.TheVariants.{Ran, Refused as Unread}
-use Rattle.run_shape.specs.Shape.{run, held, answered, Gives}
+use Rattle.std.specs.Prelude.{Ok}
+use Rattle.run_shape.specs.Shape.{held, Got}
 use Rattle.run_shape.specs.Classify.{classification, classified}
-use Rattle.run_shape.specs.Words.{words_of_run}
-use Rattle.run_shape.proofs.Answers.{given}
 use Rattle.rule_words.proofs.Laws.{past_end}
 use Rattle.rule_words.specs.Rules.{targets, row_of, run_good, row_number, stands, classified_words}
 
@@ -140,27 +135,9 @@ unfolding targets
 targets_long w zero at = refl
 targets_long w (suc n) at = omega (arith, targets_long w n (at + 1))
 
-module _ (w : List ℕ) (a k state : ℕ) {row : List ℕ} {q : RunAnswer} (e : row ≡ row_of w a k) (g : Gives q (classified state row)) where
-  is_run : q ≡ answered (run (held (classification state (row_of w a k))))
-  unfolding classified
-  is_run = given (run (held (classification state (row_of w a k)))) (rw (e, eq-eqb (length (row_of w a k)) 128 (targets_long w 64 (a + (1 + 64 * k)))) at g)
-
-  pub classified_run : {kind : AsciiRun} {r : RunWords} → q.answer ≡ Ran kind → r ≡ words_of_run kind q.ranges → r ≡ classified_words w a k state
-  unfolding classified_words
-  classified_run {kind} f h =
-      let x = held (classification state (row_of w a k)) in
-      let i = is_run in
-      let j : kind ≡ x.kind = cc in
-      let l : q.ranges ≡ x.ranges = cc in
-      h ∙ (rw (j, l))
-
-  pub never_unread : {u : Refusal} {r : RunWords} → q.answer ≡ Unread u → r ≡ classified_words w a k state
-  never_unread f =
-      let i = is_run in
-      let z : ◌≡◌ {A = ℕ} 0 1 = cc in
-      absurd (omega arith)
-
-pub ruleset answering = (rules, classified_run, never_unread)
+pub is_run : (w : List ℕ) (a k state : ℕ) {row : List ℕ} {q : Got} → row ≡ row_of w a k → q ≡ classified state row → q ≡ Ok (held (classification state (row_of w a k)))
+unfolding classified
+is_run w a k state e g = rw (e, eq-eqb (length (row_of w a k)) 128 (targets_long w 64 (a + (1 + 64 * k)))) at g
 
 -- The words of a run stand at a place: the tests are the definition's.
 pub stands_tested : (w : List ℕ) (at : ℕ) (r : RunWords) {x y z : ℕ} → x ≡ get_or w at 0 → y ≡ get_or w (at + 1) 0 → z ≡ get_or w (at + 2) 0

@@ -7,7 +7,7 @@ ghost use Rattle.refusal.specs.Lists.{pick};
 ghost use Rattle.rule_words.specs.Rules.{row_of, row_number, classified_words, stands, run_good};
 
 use rule_words::{word_at, word_past};
-use run_shape::{Answered, Run, RunWords};
+use run_shape::RunWords;
 
 // How many words of a row are there, that starts `start` words behind a place: 64 at most.
 fn words_there(words: &[u32], at: usize, start: usize) -> usize
@@ -49,23 +49,12 @@ fn row_of(words: &[u32], ascii_rows: usize, index: u32) -> [u16; 128]
     row
 }
 
-// The words of the classification of row `index` at a state.
+// The words of the classification of row `index` at a state. A row of 128 targets always has one.
 fn classified_words(words: &[u32], ascii_rows: usize, index: u32, state: u16) -> RunWords
     ensures { result ≡ classified_words words.now ascii_rows index state }
 {
     let row = row_of(words, ascii_rows, index);
-    let read = run_classify::classify(&row, state);
-    let answer = read.answer;
-    let ranges = read.ranges;
-    match answer {
-        Answered::Ran(kind) => run_words::write_serialized(Run { kind, ranges }),
-        Answered::Refused(_) => RunWords {
-            length: 0,
-            first: 0,
-            second: 0,
-            third: 0,
-        },
-    }
+    run_words::write_serialized(run_classify::classify(&row, state).unwrap())
 }
 
 // The words of a run, one or three, stand at a place.

@@ -3,7 +3,6 @@
 -- A word past the end is 0, so a count there is 0 and lists nothing. Assumes nothing.
 use Rattle.std.specs.Prelude.{ℕ, zero, suc, ◌+◌, ◌*◌, ◌/◌, ◌%◌, List, [], ◌∷◌, Bool, true, false, ◌&&◌, ◌||◌, get_or, ltb, leb, eqb}
 use Rattle.refusal.specs.Lists.{pick}
-use Rattle.run_shape.specs.declared.Run.{Run}
 use Rattle.run_shape.specs.declared.RunWords.{RunWords}
 use Rattle.run_shape.specs.Shape.{held}
 use Rattle.run_shape.specs.Classify.{classification}
@@ -137,13 +136,9 @@ targets w (suc n) at = get_or w at 0 % 65536 ∷ get_or w at 0 / 65536 ∷ targe
 abbrev pub row_of : List ℕ → ℕ → ℕ → List ℕ
 row_of w a k = targets w 64 (a + (1 + 64 * k))
 
--- the words of a run
-abbrev pub held_words : Run → RunWords
-held_words r = words_of_run r.kind r.ranges
-
 -- the words of the classification of row k at state i
 unfoldable pub classified_words : List ℕ → ℕ → ℕ → ℕ → RunWords
-classified_words w a k i = held_words (held (classification i (row_of w a k)))
+classified_words w a k i = words_of_run (held (classification i (row_of w a k)))
 
 -- the words of a run, one or three, stand at a place
 unfoldable pub stands : List ℕ → ℕ → RunWords → Bool

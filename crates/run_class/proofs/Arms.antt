@@ -28,4 +28,3 @@ among p (suc n) low t b l h =
 
 pub inside : (p : ℕ → Bool) (low end : ℕ) → every p (up_from low (end - low)) ≡ true → (b : ℕ) → low ≤ b → b < end → p b ≡ true
 inside p low end t b l h = among p (end - low) low t b l (omega arith)
-

@@ -11,10 +11,10 @@ use borrow.Author.Tests.{ltb-true, leb-true}
 use Rattle.refusal.specs.Said.{SHORT}
 use Rattle.refusal.specs.Lists.{pick}
 use Rattle.run_ranges.specs.declared.AsciiRanges.{AsciiRanges}
-use Rattle.run_shape.specs.declared.Run.{Run}
-use Rattle.run_shape.specs.Shape.{none, any, until, Got, run, refused, held}
+use Rattle.run_shape.specs.declared.AsciiRun.{AsciiRun}
+use Rattle.run_shape.specs.Shape.{none, any, until, Got, refused, held}
 use Rattle.run_shape.specs.Words.{read_at, size_of, short_run, ranges_run, or_field, kind_of}
-use Rattle.std.specs.Prelude.{Ok, Err}
+use Rattle.std.specs.Prelude.{Option, Some, None, Ok, Err}
 use Rattle.word_reader.specs.Parse as parse
 use Rattle.word_reader.specs.Parse.{Place, and_then, word, fields, block, many, section, both}
 use Rattle.word_reader.specs.Records.{after_run, mode_at, state_at, run_at, ascii_at, range_at, wide_at, triple_at, accept_at}
@@ -112,7 +112,7 @@ counted_in f w within at p e =
 -- The records of a table
 
 -- an until-run has one word
-until_one : (es : List ℕ) → size_of (held (until es)).kind ≡ 1
+until_one : (es : List ℕ) → size_of (held (until es)) ≡ 1
 unfolding held
 until_one [] = refl
 until_one (a ∷ []) = refl
@@ -122,10 +122,10 @@ until_one (a ∷ b ∷ c ∷ d ∷ es) = refl
 
 -- what is got, where it is a run, has so many words
 abbrev Words : ℕ → Got → Type 0
-Words n (run r) = size_of r.kind ≡ n
-Words n (refused m p) = Unit {0}
+Words n (Ok r) = size_of r ≡ n
+Words n (Err r) = Unit {0}
 
-or_field_lem : (n at : ℕ) (b : Bool) (r : Run) → size_of r.kind ≡ n → Words n (or_field at b r)
+or_field_lem : (n at : ℕ) (b : Bool) (r : AsciiRun) → size_of r ≡ n → Words n (or_field at b r)
 unfolding or_field
 or_field_lem n at true r e = e
 or_field_lem n at false r e = tt
@@ -141,13 +141,13 @@ short_words at kind bytes =
     (either 1 (eqb kind 1) _ _ (or_field_lem 1 at _ (held any) refl)
     (either 1 (leb kind 4) _ _ (or_field_lem 1 at _ (held (until (take (kind - 1) bytes))) (until_one (take (kind - 1) bytes))) tt))
 
-ranges_words : (at : ℕ) (r : AsciiRanges) → Words 3 (ranges_run at r)
-unfolding ranges_run
-ranges_words at r = either 3 (eqb r.count 0) _ _ tt refl
+ranges_words : (at : ℕ) (r : Option AsciiRanges) → Words 3 (ranges_run at r)
+ranges_words at (Some r) = refl
+ranges_words at None = tt
 
 after_run_lem : (n at : ℕ) (g : Got) (p : ℕ) → Words n g → after_run at g ≡ Ok p → p ≡ at + n
-after_run_lem n at (run r) p h e = let q : at + size_of r.kind ≡ p = cc in omega arith
-after_run_lem n at (refused m q) p h e = let z : ◌≡◌ {A = ℕ} 0 1 = cc in absurd (omega arith)
+after_run_lem n at (Ok r) p h e = let q : at + size_of r ≡ p = cc in omega arith
+after_run_lem n at (Err r) p h e = let z : ◌≡◌ {A = ℕ} 0 1 = cc in absurd (omega arith)
 
 pub run_in_lem : (w : List ℕ) → Within (length w) 1 (run_at w)
 unfolding read_at

@@ -1,10 +1,9 @@
 -- The records of a table, each as it is read (document 01, "Words of a table").
 use Rattle.std.specs.Prelude.{ℕ, ◌+◌, List, [], ◌∷◌, Bool, true, ◌||◌, get_or, leb, eqb}
 use Rattle.refusal.specs.Fixed.{NONE}
-use Rattle.std.specs.Prelude.{Ok}
-use Rattle.run_shape.specs.Shape.{Got, run, refused}
+use Rattle.std.specs.Prelude.{Ok, Err}
+use Rattle.run_shape.specs.Shape.{Got}
 use Rattle.run_shape.specs.Words.{read_at, size_of}
-use Rattle.word_reader.specs.Parse as parse
 use Rattle.word_reader.specs.Parse.{Place, fields, block, section, both}
 
 -- What a field allows
@@ -32,8 +31,8 @@ state_at = fields (any ∷ any ∷ target ∷ any ∷ [])
 
 -- "4. runs": where the run that is read ends
 abbrev pub after_run : ℕ → Got → Place
-after_run at (run r) = Ok (at + size_of r.kind)
-after_run at (refused n p) = parse.refused n p
+after_run at (Ok r) = Ok (at + size_of r)
+after_run at (Err r) = Err r
 
 abbrev pub run_at : List ℕ → ℕ → Place
 run_at w at = after_run at (read_at w at)

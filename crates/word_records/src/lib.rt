@@ -8,7 +8,6 @@ ghost use Rattle.word_reader.specs.Records.{mode_at, state_at, run_at, ascii_at,
 ghost use Rattle.word_reader.specs.Records.{escape_at, config_at, context_at, continuation_at};
 
 use refusal::{NONE, Refusal};
-use run_shape::Answered;
 use word_reader::{MAX_TARGET, Record};
 
 // A mode: start state, or NONE.
@@ -53,12 +52,8 @@ const ROW_WORDS: usize = 64;
 pub fn read_run(words: &[u32], at: usize) -> Result<usize, Refusal>
     ensures { result ≡ run_at words.now at }
 {
-    let read = run_words::read_serialized(words, at);
-    let answer = read.answer;
-    match answer {
-        Answered::Ran(kind) => Ok(at + run_shape::serialized_words(kind)),
-        Answered::Refused(r) => Err(r),
-    }
+    let run = run_words::read_serialized(words, at)?;
+    Ok(at + run_shape::serialized_words(run))
 }
 
 // An ASCII row.

@@ -1,24 +1,10 @@
--- What the run answers says where it ends, or that it is refused.
-use Rattle.word_records.proofs.Runs.{running}
+-- Where the run ends is a number of the machine.
+use Rattle.std.proofs.Common.{rules, ◌≡◌, ◌*◌, ◌^◌, ◌<◌, length, Ok}
+use Rattle.word_records.proofs.Runs.{end_fits}
 use Rattle.word_records.proofs.read_run.Goals as goal
 
-pub read_serialized-read-requires : goal.read_serialized-read-requires
-read_serialized-read-requires c = search running
-
-pub enum_known-answer : goal.enum_known-answer
-enum_known-answer c = search running
-
-pub serialized_words-requires : goal.serialized_words-requires
-serialized_words-requires c = search running
-
 pub overflow_add-result : goal.overflow_add-result
-overflow_add-result c = search running
-
-pub enum_known-answer-in-Refused-1 : goal.enum_known-answer-in-Refused-1
-enum_known-answer-in-Refused-1 c = search running
-
-pub returns-in-Ran : goal.returns-in-Ran
-returns-in-Ran c = search running
-
-pub returns-in-Refused : goal.returns-in-Refused
-returns-in-Refused c = search running
+overflow_add-result c =
+    let short : length c.args.words.now * 4 < 2 ^ 63 = search rules in
+    let ran : c.read_serialized.result ≡ Ok c.in_ok-run.run' = search rules in
+    end_fits c.args.words.now c.args.at _ c.in_ok-run.run' c.read_serialized.ensures ran c.serialized_words.ensures short
