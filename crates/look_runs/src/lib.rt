@@ -1,16 +1,16 @@
 // The run of a state: where its words stand, and the run that they are. The room may be of any length and hold any numbers.
-#![tactic(auto)]
+#![tactic(auto, using(crate::proofs::Laws::chain), unfolding(crate::specs::StateRun::run_of, crate::specs::StateRun::ascii_run, room_find::specs::Room::follow))]
 
 ghost use Rattle.std.specs.Prelude.{◌≡◌, ◌≤◌, length};
 ghost use Rattle.look_runs.specs.RunPlaces.{run_place};
 ghost use Rattle.look_runs.specs.StateRun.{run_in, run_of, ascii_run};
 
 use refusal::{ASCII_START, NOT_TABLE, RUNS_START, Refusal, STATE};
-use room_find::Found;
+use room_find::Missing;
 use run_shape::{AsciiRun, refuse};
 
 // Where the run with a number stands.
-pub fn find_run(room: &[u32], i: u32) -> Found
+pub fn find_run(room: &[u32], i: u32) -> Result<usize, Missing>
     ensures { result ≡ run_place room.now i }
 {
     room_find::find_listed(room, RUNS_START, i)
@@ -31,9 +31,8 @@ fn run_of(room: &[u32], i: u32) -> Result<AsciiRun, Refusal>
     ensures { result ≡ run_of room.now i }
 {
     match find_run(room, i) {
-        Found::At(p) => read_run(room, room[ASCII_START], p),
-        Found::Absent => refuse(NOT_TABLE, 0),
-        Found::Outside => refuse(NOT_TABLE, 0),
+        Ok(p) => read_run(room, room[ASCII_START], p),
+        Err(_) => refuse(NOT_TABLE, 0),
     }
 }
 
@@ -43,8 +42,8 @@ pub fn ascii_run(room: &[u32], state: u16) -> Result<AsciiRun, Refusal>
     ensures { result ≡ ascii_run room.now state }
 {
     match room_find::find_state(room, state) {
-        Found::At(_) => run_of(room, u32::from(state)),
-        Found::Absent => refuse(STATE, 0),
-        Found::Outside => refuse(NOT_TABLE, 0),
+        Ok(_) => run_of(room, u32::from(state)),
+        Err(Missing::Absent) => refuse(STATE, 0),
+        Err(Missing::Outside) => refuse(NOT_TABLE, 0),
     }
 }
