@@ -171,23 +171,27 @@ module _ (kind : ℕ) (w : List ℕ) (left at p : ℕ) {xs : List ℕ} {n : ℕ}
 
 pub ruleset ranges = (rules, coming_start, ranges_turn, ranges_done)
 
-module _ (w : List ℕ) (row left t : ℕ) {f : ℕ} where
-  pub first_turn : {x : ℕ} → x ≡ wide_row w t → (x ≡ row → ⊥) → 0 < left → first_with w row left t ≡ f →
-      first_with w row (left - 1) (t + 1) ≡ f
+module _ (w : List ℕ) (row s t : ℕ) {f : ℕ} where
+  pub first_turn : {x : ℕ} → x ≡ wide_row w t → (x ≡ row → ⊥) → t < s → first_with w row (s - t) t ≡ f → first_with w row (s - (t + 1)) (t + 1) ≡ f
   unfolding first_with
   first_turn {x} e k h g =
-      let g' : first_with w row (suc (left - 1)) t ≡ f = rw (suc_of left h) at g in
+      let z : s - t ≡ suc (s - (t + 1)) = omega arith in
+      let g' : first_with w row (suc (s - (t + 1))) t ≡ f = rw z at g in
       rw (← e, ne_eqb x row k) at g'
 
-  pub first_hit : {x : ℕ} → x ≡ wide_row w t → x ≡ row → 0 < left → first_with w row left t ≡ f → t ≡ f
+  pub first_hit : {x : ℕ} → x ≡ wide_row w t → x ≡ row → t < s → first_with w row (s - t) t ≡ f → t ≡ f
   unfolding first_with
   first_hit {x} e k h g =
-      let g' : first_with w row (suc (left - 1)) t ≡ f = rw (suc_of left h) at g in
+      let z : s - t ≡ suc (s - (t + 1)) = omega arith in
+      let g' : first_with w row (suc (s - (t + 1))) t ≡ f = rw z at g in
       rw (← e, eq-eqb x row k) at g'
 
-  pub first_done : left ≤ 0 → first_with w row left t ≡ f → t ≡ f
+  pub first_done : s ≤ t → t ≤ s → first_with w row (s - t) t ≡ f → s ≡ f
   unfolding first_with
-  first_done h g = let z : left ≡ 0 = omega arith in rw z at g
+  first_done h i g =
+      let z : s - t ≡ 0 = omega arith in
+      let e : s ≡ t = omega arith in
+      e ∙ (rw z at g)
 
 pub ruleset firsts = (rules, first_turn, first_hit, first_done)
 

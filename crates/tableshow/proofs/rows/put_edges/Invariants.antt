@@ -3,7 +3,7 @@ use Rattle.tableshow.proofs.Parts.{Edging}
 use Rattle.tableshow.proofs.rows.put_edges.Given as goal
 
 abbrev pub invariant-loop-left : goal.invariant-loop-left
-invariant-loop-left l = Edging l.room l.state l.count l.n l.initial.page l.left l.symbol l.low l.items l.to l.m l.page
+invariant-loop-left l = Edging l.room l.state l.count l.initial.page.at l.initial.page.bytes l.left l.symbol l.low l.items l.to l.page.at l.page.bytes
 
 abbrev pub decreases-loop-left : goal.decreases-loop-left
 decreases-loop-left l = l.left
