@@ -128,20 +128,15 @@ fn items_after(to: u32, next: u32, items: u32) -> u32
 fn put_edges(room: &[u32], state: u16, count: u32, page: &mut Page)
     ensures { Wrote (ascii_from room.now state count 0 0 0) page.old page.new }
 {
-    let mut left = count;
-    let mut symbol = 0u32;
-    let mut low = 0u32;
-    let mut items = 0u32;
+    let mut low = 0;
+    let mut items = 0;
     let mut to = target_on(room, state, 0);
-    while 0 < left {
-        let above = symbol + 1;
-        let next = target_on(room, state, above);
+    for symbol in 0..count {
+        let next = target_on(room, state, symbol + 1);
         put_edge(to, next, low, symbol, items, page);
-        low = low_after(to, next, low, above);
+        low = low_after(to, next, low, symbol + 1);
         items = items_after(to, next, items);
         to = next;
-        symbol = above;
-        left -= 1;
     }
     put_form(ending_form(items), 0, 0, 0, page)
 }
@@ -159,17 +154,14 @@ fn put_ranges(kind: u32, room: &[u32], count: u32, at: usize, page: &mut Page)
     requires { at ≤ 2 ^ 62 }
     ensures { Wrote (ranges_from kind room.now count (at + 1) 0) page.old page.new }
 {
-    let mut left = count;
-    let mut here = at + 1;
-    let mut items = 0u32;
-    while 0 < left {
+    let mut items = 0;
+    for i in 0..count {
+        let here = at + 1 + 3 * i as usize;
         let low = word_at(room, here);
         let high = word_at(room, here + 1);
         let to = word_at(room, here + 2);
         put_item(items, low, high, kind, to, page);
         items = after(items);
-        here += 3;
-        left -= 1;
     }
     put_form(ending_form(items), 0, 0, 0, page)
 }
