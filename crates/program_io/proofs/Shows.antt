@@ -203,7 +203,11 @@ module _ {xs d : List ℕ} {r : ℕ} {new : List ℕ} where
   unfolding lay
   page_is p = rw p.is (over_page xs d r p.next)
 
-pub ruleset pages = (rules, page_in, page_many, page_is)
+-- of a page that begins again at its front
+pub page_again : (xs old : List ℕ) {n : ℕ} {d : List ℕ} {r : ℕ} {new : List ℕ} → n ≡ 0 → d ≡ old → Shown xs n d r new → take r new ≡ take (length old) xs
+page_again xs old e f p = page_is (rw (e, f) at p)
+
+pub ruleset pages = (rules, page_again)
 
 -- what the writing of a byte, of a text and of a number is left with
 pub ruleset bytes = (rules, byte_in, byte_out)

@@ -14,7 +14,7 @@ use Rattle.room_decode.specs.Decode.{said}
 use Rattle.program_io.specs.Decimal.{number}
 use Rattle.program_io.specs.Shown.{Shown}
 use Rattle.program_io.proofs.Decimal.{decimal-length}
-use Rattle.program_io.proofs.Shows.{shown_behind, Coming, coming_start, coming_turn, coming_done, text_open, page_in, page_many, page_is}
+use Rattle.program_io.proofs.Shows.{shown_behind, Coming, coming_start, coming_turn, coming_done, text_open, page_is}
 use Rattle.tableread.specs.Line.{spaced, line_with, line_of}
 
 -- numbers, each with its space
@@ -48,11 +48,11 @@ module _ (ys : List ℕ) (i : ℕ) {xs : List ℕ} {n : ℕ} {old : List ℕ} {m
 -- what the loop over numbers is left with
 pub ruleset numbers = (rules, coming_start, numbers_turn, numbers_done)
 
--- a word, numbers, and the end, each behind the one before
-pub line_put : (w xs : List ℕ) {d : List ℕ} {r q e : ℕ} {d₁ d₂ d₃ : List ℕ} → Shown w 0 d r d₁ → Shown (each spaced xs) r d₁ q d₂ →
-    Shown (10 ∷ []) q d₂ e d₃ → Shown (line_with w xs) 0 d e d₃
+-- a word, numbers, and the end, each behind the one before, from the front of an empty page
+pub line_put : (w xs : List ℕ) {n : ℕ} {d old : List ℕ} {r q e : ℕ} {d₁ d₂ d₃ : List ℕ} → n ≡ 0 → d ≡ old → Shown w n d r d₁ →
+    Shown (each spaced xs) r d₁ q d₂ → Shown (10 ∷ []) q d₂ e d₃ → Shown (line_with w xs) 0 old e d₃
 unfolding line_with
-line_put w xs p t l = shown_behind p (shown_behind t l)
+line_put w xs z o p t l = rw (z, o) at (shown_behind p (shown_behind t l))
 
 -- what the writing of a number and of a line is left with
 pub ruleset parts = (rules, spaced_put, line_put)
@@ -69,22 +69,15 @@ module _ {k : ℕ} {d new : List ℕ} where
   all_put : (a b : ℕ) (xs : List ℕ) → length xs ≤ 3 → Shown (line_with (a ∷ b ∷ []) xs) 0 d k new → length d ≡ 66 → take k new ≡ line_with (a ∷ b ∷ []) xs
   all_put a b xs h p l = page_is p ∙ take_all (length d) (line_with (a ∷ b ∷ []) xs) (omega (arith, short a b xs h))
 
-  pub ok_line : {answer : Decoded} {m s w : ℕ} → Shown (line_with (111 ∷ 107 ∷ []) (m ∷ s ∷ w ∷ [])) 0 d k new → answer ≡ Table m s w →
-      length d ≡ 66 → take k new ≡ line_of (said answer)
+  pub ok_line : {answer : Decoded} {m s w a b : ℕ} → Shown (line_with (111 ∷ 107 ∷ []) (a ∷ b ∷ w ∷ [])) 0 d k new → answer ≡ Table m s w →
+      a ≡ m → b ≡ s → length d ≡ 66 → take k new ≡ line_of (said answer)
   unfolding line_of
-  ok_line {m = m} {s} {w} p e l = rw e (all_put 111 107 (m ∷ s ∷ w ∷ []) (omega arith) p l)
+  ok_line {m = m} {s} {w} p e f g l = rw e (all_put 111 107 (m ∷ s ∷ w ∷ []) (omega arith) (rw (f, g) at p) l)
 
-  pub no_line : {answer : Decoded} {r : Refusal} → Shown (line_with (110 ∷ 111 ∷ []) (r.number ∷ r.place ∷ r.item ∷ [])) 0 d k new → answer ≡ Refused r →
-      length d ≡ 66 → take k new ≡ line_of (said answer)
+  pub no_line : {answer : Decoded} {r : Refusal} {a b : ℕ} → Shown (line_with (110 ∷ 111 ∷ []) (a ∷ r.place ∷ b ∷ [])) 0 d k new → answer ≡ Refused r →
+      a ≡ r.number → b ≡ r.item → length d ≡ 66 → take k new ≡ line_of (said answer)
   unfolding line_of
-  no_line {r = r} p e l = rw e (all_put 110 111 (r.number ∷ r.place ∷ r.item ∷ []) (omega arith) p l)
+  no_line {r = r} p e f g l = rw e (all_put 110 111 (r.number ∷ r.place ∷ r.item ∷ []) (omega arith) (rw (f, g) at p) l)
 
 -- what the line of an answer is left with
-pub ruleset answering = (rules, page_in, page_many, ok_line, no_line)
-
--- the line of an answer that is known
-pub read_line : {text : List ℕ} {answer x : Decoded} → text ≡ line_of (said answer) → answer ≡ x → text ≡ line_of (said x)
-read_line e a = rw (← a) e
-
--- what the answer to an input is left with
-pub ruleset answers = (rules, read_line)
+pub ruleset answering = (rules, ok_line, no_line)

@@ -11,7 +11,7 @@ use lib.ListN.{length, get_or, take, drop, get_or-eq_default}
 use lib.Seq.{get_or-drop}
 use borrow.Author.Tests.{lt-ltb, le-ltb, ltb-true, ltb-false}
 use contract.Lifetimes.{Lfts}
-use Rattle.std.specs.Borrow.{Bor, MutBor}
+use Rattle.std.specs.Borrow.{Bor}
 use Rattle.refusal.specs.Said.{no, SHORT, LIMIT}
 use Rattle.room_decode.specs.Decode.{said, decoded_from, decode_of}
 use Rattle.word_layout.specs.Limits.{laid_out}
@@ -84,13 +84,13 @@ module _ (bs : List ℕ) where
 
 -- The call, by its own contract
 
--- answer may put this text at the front of the line, which is its second argument at exit
-abbrev AnswerPuts : (input : Bor (List ℕ)) (line : MutBor (List ℕ)) → List ℕ → Type 0
-AnswerPuts input line text = (κs : Lfts 2) × (k : ℕ) × (e : _) × answer.Learnt κs (input, (line, tt)) k e × (take k e.1.0.now ≡ text)
+-- answer may give a line with this text
+abbrev AnswerPuts : (input : Bor (List ℕ)) → List ℕ → Type 0
+AnswerPuts input text = (κs : Lfts 1) × (line : _) × (e : _) × answer.Learnt κs (input, tt) line e × (take line.at line.bytes ≡ text)
 
-module _ (input : Bor (List ℕ)) (line : MutBor (List ℕ)) (text : List ℕ) (a : AnswerPuts input line text) where
+module _ (input : Bor (List ℕ)) (text : List ℕ) (a : AnswerPuts input text) where
   is_line : text ≡ line_of (said (read_of input.now 16384))
-  is_line = sym a.4 ∙ a.3.1
+  is_line = sym a.4 ∙ a.3
 
   -- the line of whole words
   pub answer_tells : Bytes input.now → length input.now % 4 ≡ 0 → Told (words_in input.now) text

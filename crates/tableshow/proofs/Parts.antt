@@ -117,77 +117,83 @@ pub ruleset places = (ofstate, past, place_low)
 
 -- The loops
 
-suc_of : (left : ℕ) → 0 < left → left ≡ suc (left - 1)
-suc_of left h = omega arith
+suc_of : (count x : ℕ) → x < count → count - x ≡ suc (count - (x + 1))
+suc_of count x h = omega arith
 
--- the symbols from x on are to come, of which so many are left; `to` is the target on the first of them
-pub record Edging (w : List ℕ) (s count n : ℕ) (old : List ℕ) (left x low p to m : ℕ) (out : List ℕ) : Type 0 where
-  pub all : x + left ≡ count
+-- the symbols from x on are to come; `to` is the target on the first of them
+pub record Edging (w : List ℕ) (s count n : ℕ) (old : List ℕ) (x low p to m : ℕ) (out : List ℕ) : Type 0 where
   pub on : to ≡ target_on w s x
-  pub coming : Coming (ascii_from w s count 0 0 0) n old (ascii_from w s left x low p) m out
+  pub coming : Coming (ascii_from w s count 0 0 0) n old (ascii_from w s (count - x) x low p) m out
 
-pub edges_start : (w : List ℕ) (s count n : ℕ) (old : List ℕ) {to : ℕ} → to ≡ target_on w s 0 → Edging w s count n old count 0 0 0 to n old
-edges_start w s count n old e = record { all = omega arith; on = e; coming = coming_start _ _ _ }
+pub edges_start : (w : List ℕ) (s count n : ℕ) (old : List ℕ) {to : ℕ} → to ≡ target_on w s 0 → Edging w s count n old 0 0 0 to n old
+edges_start w s count n old e = record { on = e; coming = let z : count - 0 ≡ count = omega arith in rw z (coming_start _ _ _) }
 
-module _ {w : List ℕ} {s count n : ℕ} {old : List ℕ} {left x low p to m : ℕ} {out : List ℕ} where
+module _ {w : List ℕ} {s count n : ℕ} {old : List ℕ} {x low p to m : ℕ} {out : List ℕ} where
   pub edges_turn : {v r l i : ℕ} {new : List ℕ} → Shown (edge to v low x p) m out r new → l ≡ low_after to v low (x + 1) →
-      i ≡ items_after to v p → v ≡ target_on w s (x + 1) → 0 < left → Edging w s count n old left x low p to m out →
-      Edging w s count n old (left - 1) (x + 1) l i v r new
+      i ≡ items_after to v p → v ≡ target_on w s (x + 1) → x < count → Edging w s count n old x low p to m out →
+      Edging w s count n old (x + 1) l i v r new
   unfolding ascii_from edge_at low_at items_at
   edges_turn q c e b h g =
-      let k : x + left ≡ count = g.all in
-      let g' : Coming (ascii_from w s count 0 0 0) n old (ascii_from w s (suc (left - 1)) x low p) m out = rw (suc_of left h) at g.coming in
+      let g' : Coming (ascii_from w s count 0 0 0) n old (ascii_from w s (suc (count - (x + 1))) x low p) m out = rw (suc_of count x h) at g.coming in
       record {
-        all = omega arith;
         on = b;
         coming = rw (c, e, g.on, b) (coming_turn (rw (g.on, b) at q) g');
       }
 
-  pub edges_done : (f : ℕ) {r : ℕ} {new : List ℕ} → Shown (formed f 0 0 0) m out r new → formed f 0 0 0 ≡ ending p → left ≤ 0 →
-      Edging w s count n old left x low p to m out → Shown (ascii_from w s count 0 0 0) n old r new
+  pub edges_done : (f : ℕ) {r : ℕ} {new : List ℕ} → Shown (formed f 0 0 0) m out r new → formed f 0 0 0 ≡ ending p → count ≤ x →
+      Edging w s count n old x low p to m out → Shown (ascii_from w s count 0 0 0) n old r new
   unfolding ascii_from
-  edges_done f q e h g = let z : left ≡ 0 = omega arith in coming_last (rw e at q) (rw z at g.coming)
+  edges_done f q e h g = let z : count - x ≡ 0 = omega arith in coming_last (rw e at q) (rw z at g.coming)
 
-  pub edges_size : Edging w s count n old left x low p to m out → length out ≡ length old
-  edges_size g = g.coming.size
-
-pub ruleset edges = (rules, edges_start, edges_turn, edges_done, edges_size)
+pub ruleset edges = (rules, edges_start, edges_done)
 
 pub ruleset edges-on = (edges_turn)
 
-module _ (kind : ℕ) (w : List ℕ) (left at p : ℕ) {xs : List ℕ} {n : ℕ} {old : List ℕ} {m : ℕ} {out : List ℕ} where
-  pub ranges_turn : {a b c r i : ℕ} {new : List ℕ} → Shown (item p a b kind c) m out r new → a ≡ get_or w at 0 → b ≡ get_or w (at + 1) 0 →
-      c ≡ get_or w (at + 2) 0 → i ≡ after p → 0 < left → Coming xs n old (ranges_from kind w left at p) m out →
-      Coming xs n old (ranges_from kind w (left - 1) (at + 3) i) r new
+module _ (kind : ℕ) (w : List ℕ) (count at : ℕ) where
+  pub ranges_start : (p n : ℕ) (old : List ℕ) → Coming (ranges_from kind w count at p) n old (ranges_from kind w (count - 0) (at + 3 * 0) p) n old
+  ranges_start p n old =
+      let y : count - 0 ≡ count = omega arith in
+      let z : at + 3 * 0 ≡ at = omega arith in
+      rw (y, z) (coming_start _ _ _)
+
+module _ (kind : ℕ) (w : List ℕ) (count at i p : ℕ) {xs : List ℕ} {n : ℕ} {old : List ℕ} {m : ℕ} {out : List ℕ} where
+  pub ranges_turn : {a b c r q : ℕ} {new : List ℕ} → Shown (item p a b kind c) m out r new → a ≡ get_or w (at + 3 * i) 0 → b ≡ get_or w (at + 3 * i + 1) 0 →
+      c ≡ get_or w (at + 3 * i + 2) 0 → q ≡ after p → i < count → Coming xs n old (ranges_from kind w (count - i) (at + 3 * i) p) m out →
+      Coming xs n old (ranges_from kind w (count - (i + 1)) (at + 3 * (i + 1)) q) r new
   unfolding ranges_from
-  ranges_turn q a b c e h g =
-      let g' : Coming xs n old (ranges_from kind w (suc (left - 1)) at p) m out = rw (suc_of left h) at g in
-      rw e (coming_turn (rw (a, b, c) at q) g')
+  ranges_turn s a b c e h g =
+      let g' : Coming xs n old (ranges_from kind w (suc (count - (i + 1))) (at + 3 * i) p) m out = rw (suc_of count i h) at g in
+      let z : at + 3 * (i + 1) ≡ at + 3 * i + 3 = omega arith in
+      rw (e, z) (coming_turn (rw (a, b, c) at s) g')
 
-  pub ranges_done : (f : ℕ) {r : ℕ} {new : List ℕ} → Shown (formed f 0 0 0) m out r new → formed f 0 0 0 ≡ ending p → left ≤ 0 →
-      Coming xs n old (ranges_from kind w left at p) m out → Shown xs n old r new
+  pub ranges_done : (f : ℕ) {r : ℕ} {new : List ℕ} → Shown (formed f 0 0 0) m out r new → formed f 0 0 0 ≡ ending p → count ≤ i →
+      Coming xs n old (ranges_from kind w (count - i) (at + 3 * i) p) m out → Shown xs n old r new
   unfolding ranges_from
-  ranges_done f q e h g = let z : left ≡ 0 = omega arith in coming_last (rw e at q) (rw z at g)
+  ranges_done f q e h g = let z : count - i ≡ 0 = omega arith in coming_last (rw e at q) (rw z at g)
 
-pub ruleset ranges = (rules, coming_start, ranges_turn, ranges_done)
+pub ruleset ranges = (rules, ranges_start, ranges_turn, ranges_done)
 
-module _ (w : List ℕ) (row left t : ℕ) {f : ℕ} where
-  pub first_turn : {x : ℕ} → x ≡ wide_row w t → (x ≡ row → ⊥) → 0 < left → first_with w row left t ≡ f →
-      first_with w row (left - 1) (t + 1) ≡ f
+module _ (w : List ℕ) (row s t : ℕ) {f : ℕ} where
+  pub first_turn : {x : ℕ} → x ≡ wide_row w t → (x ≡ row → ⊥) → t < s → first_with w row (s - t) t ≡ f → first_with w row (s - (t + 1)) (t + 1) ≡ f
   unfolding first_with
   first_turn {x} e k h g =
-      let g' : first_with w row (suc (left - 1)) t ≡ f = rw (suc_of left h) at g in
+      let z : s - t ≡ suc (s - (t + 1)) = omega arith in
+      let g' : first_with w row (suc (s - (t + 1))) t ≡ f = rw z at g in
       rw (← e, ne_eqb x row k) at g'
 
-  pub first_hit : {x : ℕ} → x ≡ wide_row w t → x ≡ row → 0 < left → first_with w row left t ≡ f → t ≡ f
+  pub first_hit : {x : ℕ} → x ≡ wide_row w t → x ≡ row → t < s → first_with w row (s - t) t ≡ f → t ≡ f
   unfolding first_with
   first_hit {x} e k h g =
-      let g' : first_with w row (suc (left - 1)) t ≡ f = rw (suc_of left h) at g in
+      let z : s - t ≡ suc (s - (t + 1)) = omega arith in
+      let g' : first_with w row (suc (s - (t + 1))) t ≡ f = rw z at g in
       rw (← e, eq-eqb x row k) at g'
 
-  pub first_done : left ≤ 0 → first_with w row left t ≡ f → t ≡ f
+  pub first_done : s ≤ t → t ≤ s → first_with w row (s - t) t ≡ f → s ≡ f
   unfolding first_with
-  first_done h g = let z : left ≡ 0 = omega arith in rw z at g
+  first_done h i g =
+      let z : s - t ≡ 0 = omega arith in
+      let e : s ≡ t = omega arith in
+      e ∙ (rw z at g)
 
 pub ruleset firsts = (rules, first_turn, first_hit, first_done)
 

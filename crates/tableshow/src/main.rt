@@ -13,7 +13,6 @@ mod rows;
 mod text;
 
 ghost use Rattle.std.specs.Prelude.{◌≡◌, min, length, take};
-ghost use Rattle.io.specs.Counts.{IsPrefixLen};
 ghost use Rattle.tableshow.specs.Page.{state_text, mode_text, table_text, refusal_text};
 
 use refusal::ROOM_NUMBERS;
@@ -22,60 +21,48 @@ use room_decode::Decoded;
 use std::io::{Result, Stdout};
 
 // At most 2,730 ranges stand in the rows of a state, of at most 55 bytes each with the break of their line.
-const PAGE: usize = 163840;
+pub(crate) type Page = program_io::Page<163840>;
 
-fn table_page(modes: u32, states: u32, words: usize, page: &mut [u8]) -> usize
-    ensures prefix_len { IsPrefixLen result page.new }
-    ensures page_after { take result page.new ≡ take (length page.old) (table_text modes states words) }
+fn table_page(modes: u32, states: u32, words: usize, page: &mut Page)
+    ensures { take page.new.at page.new.bytes ≡ take (length page.old.bytes) (table_text modes states words) }
 {
-    page::put_table(modes, states, words, page, 0)
+    page.clear();
+    page::put_table(modes, states, words, page);
 }
 
-fn mode_page(room: &[u32], mode: u32, page: &mut [u8]) -> usize
-    ensures prefix_len { IsPrefixLen result page.new }
-    ensures page_after { take result page.new ≡ take (length page.old) (mode_text room.now mode) }
+fn mode_page(room: &[u32], mode: u32, page: &mut Page)
+    ensures { take page.new.at page.new.bytes ≡ take (length page.old.bytes) (mode_text room.now mode) }
 {
-    page::put_mode(room, mode, page, 0)
+    page.clear();
+    page::put_mode(room, mode, page);
 }
 
-fn state_page(room: &[u32], state: u16, page: &mut [u8]) -> usize
-    ensures prefix_len { IsPrefixLen result page.new }
-    ensures page_after { take result page.new ≡ take (length page.old) (state_text room.now state) }
+fn state_page(room: &[u32], state: u16, page: &mut Page)
+    ensures { take page.new.at page.new.bytes ≡ take (length page.old.bytes) (state_text room.now state) }
 {
-    page::put_state(room, state, page, 0)
+    page.clear();
+    page::put_state(room, state, page);
 }
 
-fn refusal_page(number: u32, place: usize, page: &mut [u8]) -> usize
-    ensures prefix_len { IsPrefixLen result page.new }
-    ensures page_after { take result page.new ≡ take (length page.old) (refusal_text number place) }
+fn refusal_page(number: u32, place: usize, page: &mut Page)
+    ensures { take page.new.at page.new.bytes ≡ take (length page.old.bytes) (refusal_text number place) }
 {
-    page::put_refusal(number, place, page, 0)
+    page.clear();
+    page::put_refusal(number, place, page);
 }
 
-fn show_mode(out: Stdout, room: &[u32], mode: u32, page: &mut [u8]) -> Result<()> {
-    let n = mode_page(room, mode, page);
-    out.write_all(&page[..n])
-}
-
-fn show_modes(out: Stdout, room: &[u32], modes: u32, page: &mut [u8]) -> Result<()> {
-    let mut mode = 0;
-    while mode < modes {
-        show_mode(out, room, mode, page)?;
-        mode += 1;
+fn show_modes(out: Stdout, room: &[u32], modes: u32, page: &mut Page) -> Result<()> {
+    for mode in 0..modes {
+        mode_page(room, mode, page);
+        out.write_all(page.written())?;
     }
     Ok(())
 }
 
-fn show_state(out: Stdout, room: &[u32], state: u16, page: &mut [u8]) -> Result<()> {
-    let n = state_page(room, state, page);
-    out.write_all(&page[..n])
-}
-
-fn show_states(out: Stdout, room: &[u32], states: u16, page: &mut [u8]) -> Result<()> {
-    let mut state = 0;
-    while state < states {
-        show_state(out, room, state, page)?;
-        state += 1;
+fn show_states(out: Stdout, room: &[u32], states: u16, page: &mut Page) -> Result<()> {
+    for state in 0..states {
+        state_page(room, state, page);
+        out.write_all(page.written())?;
     }
     Ok(())
 }
@@ -84,15 +71,7 @@ fn show_states(out: Stdout, room: &[u32], states: u16, page: &mut [u8]) -> Resul
 fn all_of(states: u32) -> u16
     ensures { result ≡ min states 65535 }
 {
-    if states < 65536 {
-        return states as u16;
-    }
-    65535
-}
-
-fn show_head(out: Stdout, modes: u32, states: u32, words: usize, page: &mut [u8]) -> Result<()> {
-    let n = table_page(modes, states, words, page);
-    out.write_all(&page[..n])
+    states.min(65535) as u16
 }
 
 fn show_table(
@@ -101,21 +80,22 @@ fn show_table(
     modes: u32,
     states: u32,
     words: usize,
-    page: &mut [u8],
+    page: &mut Page,
 ) -> Result<()> {
-    show_head(out, modes, states, words, page)?;
+    table_page(modes, states, words, page);
+    out.write_all(page.written())?;
     show_modes(out, room, modes, page)?;
     show_states(out, room, all_of(states), page)
 }
 
-fn show_refusal(out: Stdout, number: u32, place: usize, page: &mut [u8]) -> Result<()> {
-    let n = refusal_page(number, place, page);
-    out.write_all(&page[..n])
+fn show_refusal(out: Stdout, number: u32, place: usize, page: &mut Page) -> Result<()> {
+    refusal_page(number, place, page);
+    out.write_all(page.written())
 }
 
 // What decoding answered, part by part on one page.
 fn show(out: Stdout, room: &[u32], decoded: Decoded) -> Result<()> {
-    let mut page = [0u8; PAGE];
+    let mut page = Page::new();
     match decoded {
         Decoded::Table {
             modes,

@@ -7,15 +7,15 @@ ghost use Rattle.look_accepts.specs.Record as recorded;
 ghost use Rattle.look_continuations.specs.Continuation as continued;
 ghost use Rattle.look_modes.specs.Start as started;
 ghost use Rattle.look_targets.specs.Targets.{eof_target};
-ghost use Rattle.program_io.specs.Shown.{Shown};
+ghost use Rattle.program_io.specs.Wrote.{Wrote};
 ghost use Rattle.tableshow.specs.Forms.{formed};
 ghost use Rattle.tableshow.specs.Rows.{or_else, place_of};
 ghost use Rattle.tableshow.specs.Page.{part, record_line, said_line, accept_text, head_text, until_text, ranges_line, run_text, run_line, end_target};
 ghost use Rattle.tableshow.specs.Page.{end_continuation, rest_text, state_text, start_line, mode_text, table_text, rule_text, reason_text, refusal_text};
 
-use crate::forms;
 use crate::rows::{DEAD, ESCAPE, number_or, place_of, put_ascii, put_escapes, put_wide};
 use crate::text::put_form;
+use crate::{Page, forms};
 use look_accepts::AcceptRecord;
 use look_modes::Start;
 use refusal::{NONE, RUNS_START};
@@ -88,31 +88,31 @@ fn actions_of(found: AcceptRecord) -> u32
     }
 }
 
-fn put_said(accept: u32, found: AcceptRecord, page: &mut [u8], n: usize) -> usize
-    ensures { Shown (said_line accept (recorded.said found)) n page.old result page.new }
+fn put_said(accept: u32, found: AcceptRecord, page: &mut Page)
+    ensures { Wrote (said_line accept (recorded.said found)) page.old page.new }
 {
     let rule = rule_of(found);
     let flag = bit(flag_of(found));
     let actions = actions_of(found);
     let form = record_form(flag, actions);
-    put_form(form, accept as u64, rule as u64, actions as u64, page, n)
+    put_form(form, accept as u64, rule as u64, actions as u64, page)
 }
 
-fn put_accept(room: &[u32], accept: u32, page: &mut [u8], n: usize) -> usize
-    ensures { Shown (accept_text room.now accept) n page.old result page.new }
+fn put_accept(room: &[u32], accept: u32, page: &mut Page)
+    ensures { Wrote (accept_text room.now accept) page.old page.new }
 {
     if accept == NONE {
-        return put_form(forms::NO_ACCEPT, 0, 0, 0, page, n);
+        return put_form(forms::NO_ACCEPT, 0, 0, 0, page);
     }
-    put_said(accept, look_accepts::accept_record(room, accept), page, n)
+    put_said(accept, look_accepts::accept_record(room, accept), page)
 }
 
-fn put_head(room: &[u32], state: u16, page: &mut [u8], n: usize) -> usize
-    ensures { Shown (head_text room.now state) n page.old result page.new }
+fn put_head(room: &[u32], state: u16, page: &mut Page)
+    ensures { Wrote (head_text room.now state) page.old page.new }
 {
     let accept = number_or(look_accepts::accept(room, state), NONE);
-    let behind_state = put_form(forms::STATE, state as u64, 0, 0, page, n);
-    put_accept(room, accept, page, behind_state)
+    put_form(forms::STATE, state as u64, 0, 0, page);
+    put_accept(room, accept, page)
 }
 
 // The exits of a run: one, two or three.
@@ -162,28 +162,21 @@ fn run_form(run: u32) -> usize
 }
 
 // The run whose words stand at a place.
-fn put_run_at(room: &[u32], at: usize, page: &mut [u8], n: usize) -> usize
+fn put_run_at(room: &[u32], at: usize, page: &mut Page)
     requires { at < 2 ^ 62 }
-    ensures { Shown (run_line room.now at) n page.old result page.new }
+    ensures { Wrote (run_line room.now at) page.old page.new }
 {
     let run = word_at(room, at);
     let first = word_at(room, at + 1);
     let second = word_at(room, at + 2);
-    put_form(
-        run_form(run),
-        run as u64,
-        first as u64,
-        second as u64,
-        page,
-        n,
-    )
+    put_form(run_form(run), run as u64, first as u64, second as u64, page)
 }
 
-fn put_run_of(room: &[u32], state: u16, page: &mut [u8], n: usize) -> usize
-    ensures { Shown (run_line room.now (place_of room.now RUNS-START state)) n page.old result page.new }
+fn put_run_of(room: &[u32], state: u16, page: &mut Page)
+    ensures { Wrote (run_line room.now (place_of room.now RUNS-START state)) page.old page.new }
 {
     let at = place_of(room, RUNS_START, state as u32);
-    put_run_at(room, at, page, n)
+    put_run_at(room, at, page)
 }
 
 fn end_form(to: u32) -> usize
@@ -196,11 +189,11 @@ fn end_form(to: u32) -> usize
     }
 }
 
-fn put_end_of(room: &[u32], state: u16, page: &mut [u8], n: usize) -> usize
-    ensures { Shown (end_target (or_else DEAD-STATE (eof_target room.now state))) n page.old result page.new }
+fn put_end_of(room: &[u32], state: u16, page: &mut Page)
+    ensures { Wrote (end_target (or_else DEAD-STATE (eof_target room.now state))) page.old page.new }
 {
     let to = number_or(look_targets::eof_target(room, state), DEAD);
-    put_form(end_form(to), to as u64, 0, 0, page, n)
+    put_form(end_form(to), to as u64, 0, 0, page)
 }
 
 fn continuation_form(to: u32) -> usize
@@ -212,31 +205,31 @@ fn continuation_form(to: u32) -> usize
     forms::END_CONTINUATION
 }
 
-fn put_continuation_of(room: &[u32], state: u16, page: &mut [u8], n: usize) -> usize
-    ensures { Shown (end_continuation (or_else none (continued.eof_continuation room.now state))) n page.old result page.new }
+fn put_continuation_of(room: &[u32], state: u16, page: &mut Page)
+    ensures { Wrote (end_continuation (or_else none (continued.eof_continuation room.now state))) page.old page.new }
 {
     let to = number_or(look_continuations::eof_continuation(room, state), NONE);
-    put_form(continuation_form(to), to as u64, 0, 0, page, n)
+    put_form(continuation_form(to), to as u64, 0, 0, page)
 }
 
 // What is behind the ascii row.
-fn put_rest(room: &[u32], state: u16, page: &mut [u8], n: usize) -> usize
-    ensures { Shown (rest_text room.now state) n page.old result page.new }
+fn put_rest(room: &[u32], state: u16, page: &mut Page)
+    ensures { Wrote (rest_text room.now state) page.old page.new }
 {
-    let behind_wide = put_wide(room, state, page, n);
-    let behind_escapes = put_escapes(room, state, page, behind_wide);
-    let behind_end = put_end_of(room, state, page, behind_escapes);
-    put_continuation_of(room, state, page, behind_end)
+    put_wide(room, state, page);
+    put_escapes(room, state, page);
+    put_end_of(room, state, page);
+    put_continuation_of(room, state, page)
 }
 
 // All of a state.
-pub(crate) fn put_state(room: &[u32], state: u16, page: &mut [u8], n: usize) -> usize
-    ensures { Shown (state_text room.now state) n page.old result page.new }
+pub(crate) fn put_state(room: &[u32], state: u16, page: &mut Page)
+    ensures { Wrote (state_text room.now state) page.old page.new }
 {
-    let behind_head = put_head(room, state, page, n);
-    let behind_run = put_run_of(room, state, page, behind_head);
-    let behind_ascii = put_ascii(room, state, page, behind_run);
-    put_rest(room, state, page, behind_ascii)
+    put_head(room, state, page);
+    put_run_of(room, state, page);
+    put_ascii(room, state, page);
+    put_rest(room, state, page)
 }
 
 // A start's number; NONE where there is none.
@@ -260,16 +253,16 @@ fn start_form(start: u32) -> usize
 }
 
 // The line of a mode.
-pub(crate) fn put_mode(room: &[u32], mode: u32, page: &mut [u8], n: usize) -> usize
-    ensures { Shown (mode_text room.now mode) n page.old result page.new }
+pub(crate) fn put_mode(room: &[u32], mode: u32, page: &mut Page)
+    ensures { Wrote (mode_text room.now mode) page.old page.new }
 {
     let start = start_number(look_modes::mode_start(room, mode));
-    put_form(start_form(start), mode as u64, start as u64, 0, page, n)
+    put_form(start_form(start), mode as u64, start as u64, 0, page)
 }
 
 // The line of the table.
-pub(crate) fn put_table(modes: u32, states: u32, words: usize, page: &mut [u8], n: usize) -> usize
-    ensures { Shown (table_text modes states words) n page.old result page.new }
+pub(crate) fn put_table(modes: u32, states: u32, words: usize, page: &mut Page)
+    ensures { Wrote (table_text modes states words) page.old page.new }
 {
     put_form(
         forms::TABLE,
@@ -277,7 +270,6 @@ pub(crate) fn put_table(modes: u32, states: u32, words: usize, page: &mut [u8], 
         states as u64,
         words as u64,
         page,
-        n,
     )
 }
 
@@ -313,9 +305,9 @@ fn reason_form(number: u32, place: usize) -> usize
 }
 
 // The line of a refusal.
-pub(crate) fn put_refusal(number: u32, place: usize, page: &mut [u8], n: usize) -> usize
-    ensures { Shown (refusal_text number place) n page.old result page.new }
+pub(crate) fn put_refusal(number: u32, place: usize, page: &mut Page)
+    ensures { Wrote (refusal_text number place) page.old page.new }
 {
-    let behind_place = put_form(forms::REFUSED, number as u64, place as u64, 0, page, n);
-    put_form(reason_form(number, place), 0, 0, 0, page, behind_place)
+    put_form(forms::REFUSED, number as u64, place as u64, 0, page);
+    put_form(reason_form(number, place), 0, 0, 0, page)
 }

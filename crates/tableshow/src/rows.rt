@@ -1,15 +1,15 @@
 // The rows of a state on a page. The room may be of any length and hold any numbers: a number that is not there reads as 0.
 ghost use Rattle.std.specs.Prelude.{◌≡◌, [], ◌∷◌, ℕ, ◌+◌, ◌^◌, ◌<◌, ◌≤◌};
 ghost use Rattle.room_find.specs.Answer.{said};
-ghost use Rattle.program_io.specs.Shown.{Shown};
+ghost use Rattle.program_io.specs.Wrote.{Wrote};
 ghost use Rattle.tableshow.specs.Joined.{joined};
 ghost use Rattle.tableshow.specs.Names.{range, target};
 ghost use Rattle.tableshow.specs.Forms.{formed};
 ghost use Rattle.tableshow.specs.Rows.{gap, after, ending, item, or_else, target_on, edge, low_after, items_after, ascii_from, ascii_text, ranges_from};
 ghost use Rattle.tableshow.specs.Rows.{row_text, place_of, wide_row, first_with, wide_with, wide_text, escapes_text};
 
-use crate::forms;
 use crate::text::put_form;
+use crate::{Page, forms};
 use refusal::{DEAD_STATE, ESCAPE_STATE, ESCAPES_START, WIDE_START};
 use room_find::{Answer, Found};
 use rule_words::word_at;
@@ -62,11 +62,11 @@ fn target_form(kind: u32, to: u32) -> usize
 }
 
 // A range, and where it leads.
-fn put_item(items: u32, low: u32, high: u32, kind: u32, to: u32, page: &mut [u8], n: usize) -> usize
-    ensures { Shown (item items low high kind to) n page.old result page.new }
+fn put_item(items: u32, low: u32, high: u32, kind: u32, to: u32, page: &mut Page)
+    ensures { Wrote (item items low high kind to) page.old page.new }
 {
-    let behind_range = put_form(gap_form(items), low as u64, high as u64, 0, page, n);
-    put_form(target_form(kind, to), to as u64, 0, 0, page, behind_range)
+    put_form(gap_form(items), low as u64, high as u64, 0, page);
+    put_form(target_form(kind, to), to as u64, 0, 0, page)
 }
 
 // A number that is told of a state, or another where there is none.
@@ -91,24 +91,16 @@ fn target_on(room: &[u32], state: u16, symbol: u32) -> u32
 }
 
 // The range from `low` to `symbol`, if it ends there and is not dead.
-fn put_edge(
-    to: u32,
-    next: u32,
-    low: u32,
-    symbol: u32,
-    items: u32,
-    page: &mut [u8],
-    n: usize,
-) -> usize
-    ensures { Shown (edge to next low symbol items) n page.old result page.new }
+fn put_edge(to: u32, next: u32, low: u32, symbol: u32, items: u32, page: &mut Page)
+    ensures { Wrote (edge to next low symbol items) page.old page.new }
 {
     if to == next {
-        return n;
+        return;
     }
     if to == DEAD {
-        return n;
+        return;
     }
-    put_item(items, low, symbol, 0, to, page, n)
+    put_item(items, low, symbol, 0, to, page)
 }
 
 fn low_after(to: u32, next: u32, low: u32, symbol: u32) -> u32
@@ -133,68 +125,58 @@ fn items_after(to: u32, next: u32, items: u32) -> u32
 }
 
 // So many symbols of the ascii row.
-fn put_edges(room: &[u32], state: u16, count: u32, page: &mut [u8], n: usize) -> usize
-    ensures { Shown (ascii_from room.now state count 0 0 0) n page.old result page.new }
+fn put_edges(room: &[u32], state: u16, count: u32, page: &mut Page)
+    ensures { Wrote (ascii_from room.now state count 0 0 0) page.old page.new }
 {
-    let mut left = count;
-    let mut symbol = 0u32;
-    let mut low = 0u32;
-    let mut items = 0u32;
+    let mut low = 0;
+    let mut items = 0;
     let mut to = target_on(room, state, 0);
-    let mut m = n;
-    while 0 < left {
-        let above = symbol + 1;
-        let next = target_on(room, state, above);
-        m = put_edge(to, next, low, symbol, items, page, m);
-        low = low_after(to, next, low, above);
+    for symbol in 0..count {
+        let next = target_on(room, state, symbol + 1);
+        put_edge(to, next, low, symbol, items, page);
+        low = low_after(to, next, low, symbol + 1);
         items = items_after(to, next, items);
         to = next;
-        symbol = above;
-        left -= 1;
     }
-    put_form(ending_form(items), 0, 0, 0, page, m)
+    put_form(ending_form(items), 0, 0, 0, page)
 }
 
 // The ascii row of a state.
-pub(crate) fn put_ascii(room: &[u32], state: u16, page: &mut [u8], n: usize) -> usize
-    ensures { Shown (ascii_text room.now state) n page.old result page.new }
+pub(crate) fn put_ascii(room: &[u32], state: u16, page: &mut Page)
+    ensures { Wrote (ascii_text room.now state) page.old page.new }
 {
-    let m = put_form(forms::ASCII, 0, 0, 0, page, n);
-    put_edges(room, state, 128, page, m)
+    put_form(forms::ASCII, 0, 0, 0, page);
+    put_edges(room, state, 128, page)
 }
 
 // So many ranges behind the number at `at`.
-fn put_ranges(kind: u32, room: &[u32], count: u32, at: usize, page: &mut [u8], n: usize) -> usize
+fn put_ranges(kind: u32, room: &[u32], count: u32, at: usize, page: &mut Page)
     requires { at ≤ 2 ^ 62 }
-    ensures { Shown (ranges_from kind room.now count (at + 1) 0) n page.old result page.new }
+    ensures { Wrote (ranges_from kind room.now count (at + 1) 0) page.old page.new }
 {
-    let mut left = count;
-    let mut here = at + 1;
-    let mut items = 0u32;
-    let mut m = n;
-    while 0 < left {
+    let mut items = 0;
+    for i in 0..count {
+        let here = at + 1 + 3 * i as usize;
         let low = word_at(room, here);
         let high = word_at(room, here + 1);
         let to = word_at(room, here + 2);
-        m = put_item(items, low, high, kind, to, page, m);
+        put_item(items, low, high, kind, to, page);
         items = after(items);
-        here += 3;
-        left -= 1;
     }
-    put_form(ending_form(items), 0, 0, 0, page, m)
+    put_form(ending_form(items), 0, 0, 0, page)
 }
 
 // The row whose length stands at a place.
-fn put_row(label: usize, kind: u32, room: &[u32], at: usize, page: &mut [u8], n: usize) -> usize
+fn put_row(label: usize, kind: u32, room: &[u32], at: usize, page: &mut Page)
     requires { at ≤ 2 ^ 62 }
-    ensures { Shown (row_text (formed label 0 0 0) kind room.now at) n page.old result page.new }
+    ensures { Wrote (row_text (formed label 0 0 0) kind room.now at) page.old page.new }
 {
     let count = word_at(room, at);
     if count == 0 {
-        return n;
+        return;
     }
-    let m = put_form(label, 0, 0, 0, page, n);
-    put_ranges(kind, room, count, at, page, m)
+    put_form(label, 0, 0, 0, page);
+    put_ranges(kind, room, count, at, page)
 }
 
 // Where the lookups find record `i` of section `k`; 0 where they find none.
@@ -223,45 +205,41 @@ fn wide_row(room: &[u32], state: u16) -> u32
 fn first_with(room: &[u32], row: u32, state: u16) -> u16
     ensures { result ≡ first_with room.now row state 0 }
 {
-    let mut left = state;
-    let mut t = 0u16;
-    while 0 < left {
+    for t in 0..state {
         if wide_row(room, t) == row {
             return t;
         }
-        t += 1;
-        left -= 1;
     }
-    t
+    state
 }
 
-fn put_wide_at(room: &[u32], state: u16, at: usize, first: u16, page: &mut [u8], n: usize) -> usize
+fn put_wide_at(room: &[u32], state: u16, at: usize, first: u16, page: &mut Page)
     requires { at < 2 ^ 62 }
-    ensures { Shown (wide_with room.now state at first) n page.old result page.new }
+    ensures { Wrote (wide_with room.now state at first) page.old page.new }
 {
     if first == state {
-        return put_row(forms::WIDE, 0, room, at, page, n);
+        return put_row(forms::WIDE, 0, room, at, page);
     }
     if word_at(room, at) == 0 {
-        return n;
+        return;
     }
-    put_form(forms::WIDE_AS, first as u64, 0, 0, page, n)
+    put_form(forms::WIDE_AS, first as u64, 0, 0, page)
 }
 
 // The wide row of a state, or the state before it that has the same.
-pub(crate) fn put_wide(room: &[u32], state: u16, page: &mut [u8], n: usize) -> usize
-    ensures { Shown (wide_text room.now state) n page.old result page.new }
+pub(crate) fn put_wide(room: &[u32], state: u16, page: &mut Page)
+    ensures { Wrote (wide_text room.now state) page.old page.new }
 {
     let row = wide_row(room, state);
     let first = first_with(room, row, state);
     let at = place_of(room, WIDE_START, row);
-    put_wide_at(room, state, at, first, page, n)
+    put_wide_at(room, state, at, first, page)
 }
 
 // The escape row of a state.
-pub(crate) fn put_escapes(room: &[u32], state: u16, page: &mut [u8], n: usize) -> usize
-    ensures { Shown (escapes_text room.now state) n page.old result page.new }
+pub(crate) fn put_escapes(room: &[u32], state: u16, page: &mut Page)
+    ensures { Wrote (escapes_text room.now state) page.old page.new }
 {
     let at = place_of(room, ESCAPES_START, state as u32);
-    put_row(forms::ESCAPES, 1, room, at + 1, page, n)
+    put_row(forms::ESCAPES, 1, room, at + 1, page)
 }

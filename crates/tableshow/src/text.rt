@@ -1,13 +1,11 @@
-// Symbols, ranges and forms on a page. Each function writes from place `n` of the page on, cuts off what does not fit, and
-// answers the place behind what it wrote.
+// Symbols, ranges and forms on a page. Each function writes behind what stands there, and cuts off what does not fit.
 ghost use Rattle.std.specs.Prelude.{◌≡◌};
-ghost use Rattle.program_io.specs.Shown.{Shown};
+ghost use Rattle.program_io.specs.Wrote.{Wrote};
 ghost use Rattle.tableshow.specs.Names.{hex_digit, blank, symbol, point, range};
 ghost use Rattle.tableshow.specs.Forms.{digit_in, glyph_of, number_in, exit_in, low_in, high_in, piece, drawn, formed};
 
-use crate::forms;
 use crate::forms::form_byte;
-use program_io::{put_byte, put_number};
+use crate::{Page, forms};
 
 // The last hexadecimal digit of a number.
 fn hex_digit(x: u64) -> u8
@@ -50,18 +48,16 @@ fn glyph_of(byte: u8, x: u64) -> u8
 }
 
 // A symbol by its form.
-fn put_drawn(form: usize, x: u64, page: &mut [u8], n: usize) -> usize
-    ensures { Shown (drawn form x) n page.old result page.new }
+fn put_drawn(form: usize, x: u64, page: &mut Page)
+    ensures { Wrote (drawn form x) page.old page.new }
 {
     let mut i = form;
     let mut byte = form_byte(i);
-    let mut m = n;
     while 0 < byte {
-        m = put_byte(glyph_of(byte, x), page, m);
+        page.put_byte(glyph_of(byte, x));
         i += 1;
         byte = form_byte(i);
     }
-    m
 }
 
 fn blank_form(x: u64) -> usize
@@ -110,15 +106,15 @@ fn point_form(x: u64) -> usize
 }
 
 // A range of code points; one of a single point by that alone.
-fn put_range(low: u64, high: u64, page: &mut [u8], n: usize) -> usize
-    ensures { Shown (range low high) n page.old result page.new }
+fn put_range(low: u64, high: u64, page: &mut Page)
+    ensures { Wrote (range low high) page.old page.new }
 {
-    let behind_low = put_drawn(point_form(low), low, page, n);
+    put_drawn(point_form(low), low, page);
     if low == high {
-        return behind_low;
+        return;
     }
-    let behind_dots = put_drawn(forms::DOTS, 0, page, behind_low);
-    put_drawn(point_form(high), high, page, behind_dots)
+    put_drawn(forms::DOTS, 0, page);
+    put_drawn(point_form(high), high, page)
 }
 
 // What a byte of a line's form stands for: a number, an exit of a run, or the ends of a range.
@@ -166,33 +162,31 @@ fn high_in(byte: u8, b: u64, c: u64) -> u64
     }
 }
 
-fn put_piece(byte: u8, a: u64, b: u64, c: u64, page: &mut [u8], n: usize) -> usize
-    ensures { Shown (piece byte a b c) n page.old result page.new }
+fn put_piece(byte: u8, a: u64, b: u64, c: u64, page: &mut Page)
+    ensures { Wrote (piece byte a b c) page.old page.new }
 {
     if byte < 128 {
-        return put_byte(byte, page, n);
+        return page.put_byte(byte);
     }
     if byte < 131 {
-        return put_number(number_in(byte, a, b, c), page, n);
+        return page.put_number(number_in(byte, a, b, c));
     }
     if byte < 134 {
         let exit = exit_in(byte, a);
-        return put_drawn(symbol_form(exit), exit, page, n);
+        return put_drawn(symbol_form(exit), exit, page);
     }
-    put_range(low_in(byte, a, b, c), high_in(byte, b, c), page, n)
+    put_range(low_in(byte, a, b, c), high_in(byte, b, c), page)
 }
 
 // A line, or a part of one, by its form and three numbers.
-pub(crate) fn put_form(form: usize, a: u64, b: u64, c: u64, page: &mut [u8], n: usize) -> usize
-    ensures { Shown (formed form a b c) n page.old result page.new }
+pub(crate) fn put_form(form: usize, a: u64, b: u64, c: u64, page: &mut Page)
+    ensures { Wrote (formed form a b c) page.old page.new }
 {
     let mut i = form;
     let mut byte = form_byte(i);
-    let mut m = n;
     while 0 < byte {
-        m = put_piece(byte, a, b, c, page, m);
+        put_piece(byte, a, b, c, page);
         i += 1;
         byte = form_byte(i);
     }
-    m
 }

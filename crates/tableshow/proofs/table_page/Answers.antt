@@ -2,11 +2,5 @@
 use Rattle.program_io.proofs.Shows.{pages}
 use Rattle.tableshow.proofs.table_page.Goals as goal
 
-pub put_table-requires : goal.put_table-requires
-put_table-requires c = search pages
-
-pub shape_of-page : goal.shape_of-page
-shape_of-page c = search pages
-
 pub returns : goal.returns
 returns c = search pages

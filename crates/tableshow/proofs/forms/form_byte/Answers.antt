@@ -4,10 +4,6 @@ use Rattle.tableshow.specs.Forms.{forms}
 use Rattle.tableshow.proofs.Parts.{places}
 use Rattle.tableshow.proofs.forms.form_byte.Goals as goal
 
-pub bounds-forms-at : goal.bounds-forms-at
-unfolding forms joined
-bounds-forms-at c = search places
-
 pub returns-then-at-lt1514 : goal.returns-then-at-lt1514
 unfolding forms joined
 returns-then-at-lt1514 c = search places

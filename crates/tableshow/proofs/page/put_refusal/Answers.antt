@@ -2,17 +2,5 @@
 use Rattle.tableshow.proofs.Parts.{parts}
 use Rattle.tableshow.proofs.page.put_refusal.Goals as goal
 
-pub put_form-behind_place-requires : goal.put_form-behind_place-requires
-put_form-behind_place-requires c = search parts
-
-pub reason_form-requires : goal.reason_form-requires
-reason_form-requires c = search parts
-
-pub put_form-requires : goal.put_form-requires
-put_form-requires c = search parts
-
-pub shape_of-page : goal.shape_of-page
-shape_of-page c = search parts
-
 pub returns : goal.returns
 returns c = search parts

@@ -4,10 +4,6 @@ use Rattle.tableshow.specs.Forms.{formed, filled, forms, piece, number_in, exit_
 use Rattle.tableshow.proofs.Filling.{reasons}
 use Rattle.tableshow.proofs.page.reason_form.Goals as goal
 
-pub rule_form-requires : goal.rule_form-requires
-unfolding formed filled forms joined if_less if_same piece number_in exit_in low_in high_in
-rule_form-requires c = search reasons
-
 pub returns-in-1 : goal.returns-in-1
 unfolding formed filled forms joined if_less if_same piece number_in exit_in low_in high_in
 returns-in-1 c = search reasons

@@ -8,14 +8,8 @@ returns-then-kind-eq0 c = search runs
 pub returns-then-kind-eq1 : goal.returns-then-kind-eq1
 returns-then-kind-eq1 c = search runs
 
-pub ranges_form-requires : goal.ranges_form-requires
-ranges_form-requires c = search runs
-
 pub returns-then-kind-eq5 : goal.returns-then-kind-eq5
 returns-then-kind-eq5 c = search runs
-
-pub until_form-requires : goal.until_form-requires
-until_form-requires c = search runs
 
 pub returns : goal.returns
 returns c = search runs

@@ -2,9 +2,6 @@
 use Rattle.tableshow.proofs.Parts.{items}
 use Rattle.tableshow.proofs.rows.after.Goals as goal
 
-pub overflow_add-result : goal.overflow_add-result
-overflow_add-result c = search items
-
 pub returns-then-items-lt3 : goal.returns-then-items-lt3
 returns-then-items-lt3 c = search items
 

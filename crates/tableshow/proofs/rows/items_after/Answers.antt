@@ -8,8 +8,5 @@ returns-then-to-next c = search items
 pub returns-then-to-eq-DEAD : goal.returns-then-to-eq-DEAD
 returns-then-to-eq-DEAD c = search items
 
-pub after-requires : goal.after-requires
-after-requires c = search items
-
 pub returns : goal.returns
 returns c = search items

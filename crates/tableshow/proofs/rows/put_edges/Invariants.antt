@@ -2,8 +2,5 @@
 use Rattle.tableshow.proofs.Parts.{Edging}
 use Rattle.tableshow.proofs.rows.put_edges.Given as goal
 
-abbrev pub invariant-loop-left : goal.invariant-loop-left
-invariant-loop-left l = Edging l.room l.state l.count l.n l.initial.page l.left l.symbol l.low l.items l.to l.m l.page
-
-abbrev pub decreases-loop-left : goal.decreases-loop-left
-decreases-loop-left l = l.left
+abbrev pub invariant-loop-symbol : goal.invariant-loop-symbol
+invariant-loop-symbol l = Edging l.room l.state l.count l.initial.page.at l.initial.page.bytes l.symbol l.low l.items l.to l.page.at l.page.bytes

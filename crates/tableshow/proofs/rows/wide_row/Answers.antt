@@ -2,12 +2,6 @@
 use Rattle.tableshow.proofs.Parts.{places}
 use Rattle.tableshow.proofs.rows.wide_row.Goals as goal
 
-pub find_state-requires : goal.find_state-requires
-find_state-requires c = search places
-
-pub enum_known-p : goal.enum_known-p
-enum_known-p c = search places
-
 pub overflow_add-result : goal.overflow_add-result
 overflow_add-result c = search places
 
@@ -16,12 +10,6 @@ offset_bounds-room-p c = search places
 
 pub bounds-room-p : goal.bounds-room-p
 bounds-room-p c = search places
-
-pub enum_told-1 : goal.enum_told-1
-enum_told-1 c = search places
-
-pub enum_told-in-Outside : goal.enum_told-in-Outside
-enum_told-in-Outside c = search places
 
 pub returns-in-At : goal.returns-in-At
 returns-in-At c = search places

@@ -2,9 +2,6 @@
 use Rattle.tableshow.proofs.Filling.{points}
 use Rattle.tableshow.proofs.text.point_form.Goals as goal
 
-pub symbol_form-requires : goal.symbol_form-requires
-symbol_form-requires c = search points
-
 pub returns-then-x-lt128 : goal.returns-then-x-lt128
 returns-then-x-lt128 c = search points
 

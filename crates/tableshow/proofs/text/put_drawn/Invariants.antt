@@ -7,7 +7,7 @@ use Rattle.program_io.proofs.Shows.{Coming}
 use Rattle.tableshow.proofs.text.put_drawn.Given as goal
 
 abbrev pub invariant-loop-byte : goal.invariant-loop-byte
-invariant-loop-byte l = (l.byte ≡ get_or forms l.i 0) × Coming (drawn l.form l.x) l.n l.initial.page (drawn l.i l.x) l.m l.page
+invariant-loop-byte l = (l.byte ≡ get_or forms l.i 0) × Coming (drawn l.form l.x) l.initial.page.at l.initial.page.bytes (drawn l.i l.x) l.page.at l.page.bytes
 
 abbrev pub decreases-loop-byte : goal.decreases-loop-byte
 decreases-loop-byte l = 1514 - l.i

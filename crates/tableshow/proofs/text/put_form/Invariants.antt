@@ -7,7 +7,7 @@ use Rattle.program_io.proofs.Shows.{Coming}
 use Rattle.tableshow.proofs.text.put_form.Given as goal
 
 abbrev pub invariant-loop-byte : goal.invariant-loop-byte
-invariant-loop-byte l = (l.byte ≡ get_or forms l.i 0) × Coming (formed l.form l.a l.b l.c) l.n l.initial.page (formed l.i l.a l.b l.c) l.m l.page
+invariant-loop-byte l = (l.byte ≡ get_or forms l.i 0) × Coming (formed l.form l.a l.b l.c) l.initial.page.at l.initial.page.bytes (formed l.i l.a l.b l.c) l.page.at l.page.bytes
 
 abbrev pub decreases-loop-byte : goal.decreases-loop-byte
 decreases-loop-byte l = 1514 - l.i

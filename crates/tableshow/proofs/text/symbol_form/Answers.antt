@@ -4,10 +4,6 @@ use Rattle.tableshow.specs.Forms.{drawn, filled, forms, glyph_of, digit_in}
 use Rattle.tableshow.proofs.Filling.{points}
 use Rattle.tableshow.proofs.text.symbol_form.Goals as goal
 
-pub blank_form-requires : goal.blank_form-requires
-unfolding drawn filled forms joined glyph_of digit_in
-blank_form-requires c = search points
-
 pub returns-then-x-lt33 : goal.returns-then-x-lt33
 unfolding drawn filled forms joined glyph_of digit_in
 returns-then-x-lt33 c = search points
