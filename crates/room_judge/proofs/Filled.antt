@@ -2,75 +2,67 @@
 use Prim.Native.Nat.{ℕ, ◌+◌, ◌-◌, ◌<◌, ◌≤◌}
 use native.Mathlib.Omega.{arith}
 use mathlib.Core.Path.{◌≡◌, refl, sym, ap, subst, ◌∙◌}
-use mathlib.Core.List.{List, [], ◌∷◌, ◌++◌}
+use mathlib.Core.List.{List, [], ◌∷◌}
 use mathlib.Core.Bool.{Bool, true, false, ◌&&◌}
 use borrow.Author.Rules.{rules}
-use borrow.Author.Tests.{lt-ltb, le-ltb, eq-eqb, ne_eqb}
+use borrow.Author.Tests.{lt-ltb, le-ltb}
 use lib.Dec.{eqb}
-use lib.ListN.{length, get_or, take, drop, length-take, length-drop}
+use lib.ListN.{length, take, drop, length-take, length-drop}
+use lib.Seq.{take_all}
+use lib.Pointwise.{pointwise}
 use Rattle.refusal.specs.declared.Refusal.{Refusal}
 use Rattle.refusal.specs.Said.{refusal_at, broken_by, NOT-TABLE, LIMIT, ROOM}
 use Rattle.refusal.proofs.Lists.{and_split, same_equal, equal_same}
-use Rattle.refusal.specs.Lists.{pick, same_list}
-use Rattle.refusal.specs.Header.{WORD-COUNT, MODES-START, WIDE-START, HEADER-NUMBERS, word_count}
-use Rattle.word_reader.specs.declared.Place.{Place}
-use Rattle.word_reader.specs.declared.Place.TheVariants.{Next, Refused}
+use Rattle.refusal.specs.Lists.{pick, every, same_list}
+use Rattle.refusal.specs.Header.{WORD-COUNT, MODES-START, HEADER-NUMBERS, word_count}
+use Rattle.std.specs.Prelude.{Option, Some, None, Ok, Err, map, is_some}
 use Rattle.word_reader.specs.declared.Sections.{Sections}
-use Rattle.word_layout.specs.declared.Layout.{Layout}
-use Rattle.word_layout.specs.declared.Layout.TheVariants.{Found, Unfound}
+use Rattle.word_layout.specs.Layout.{Layout}
 use Rattle.word_layout.specs.Layout.{unfound, layout_of}
-use Rattle.word_layout.proofs.Found.{modes_there, states_there, runs_there, ascii_there, wide_there, accepts_there, escapes_there, continuations_there}
+use Rattle.word_layout.proofs.Found.{there}
 use Rattle.rule_words.specs.Rules.{broken, broken_item}
 use Rattle.rule_first.specs.declared.Broken.{Broken}
 use Rattle.rule_first.specs.Broken.{first_in}
+use Rattle.rule_first.proofs.Breaking.{unbroken, breaks}
 use Rattle.buffer.specs.Over.{zeros, padded}
 use Rattle.word_layout.specs.Limits.{laid_out}
-use Rattle.room_fill.specs.Room.{in_room, four, header, made, places, numbers, room_for}
+use Rattle.room_fill.specs.Room.{in_room, eight, header, made, places, numbers, room_for}
 use Rattle.room_fill.proofs.Sizes.{made-length}
-use Rattle.room_decode.specs.declared.Decoded.TheVariants as decoded
-use Rattle.room_decode.specs.declared.Decoded.TheVariants.{Table}
-use Rattle.room_decode.specs.Decode.{judged, decoded_from, kept_from}
-use Rattle.room_judge.specs.Standing.{Few, standing, place_after, empty_from, empty_behind, place_stands, four_stand, eight_stand, flags_plain, filled, sound}
+use Rattle.room_decode.specs.Decode.{counts, judged, decoded_from, kept_from}
+use Rattle.room_judge.specs.Standing.{standing, empty_from, empty_behind, eight_stand, flags_plain, filled, sound}
 use Rattle.room_judge.specs.Judge.{words_part, Part, accepted, is_table, table_in}
+use Rattle.room_judge.proofs.Comparing.{part_stands}
 use Rattle.room_judge.proofs.Stood.{moved, alike, stands_in, cons_stands, cons_stood, append-stands, append_stood}
 use Rattle.room_judge.proofs.Stood.{stood_within, stood_next, stood_is, stands-part, whole_stood, whole-stands}
 use Rattle.room_judge.proofs.Plain.{plain-made, made_plain}
 
--- The places of the sections
+-- The places of the sections' counts
 
-none-stands : (n : ℕ) (d : List ℕ) → standing [] n d ≡ Next n
-unfolding standing
-none-stands n d = refl
+module _ (s : Sections) (d : List ℕ) where
+  abbrev heads : List ℕ
+  heads = map in_room (eight s)
 
-module _ (m s r a n : ℕ) (d : List ℕ) where
-  two : n + 1 + 1 ≡ n + 2
-  two = omega arith
+  eight-stands : eight_stand s d ≡ true → standing heads MODES-START d ≡ Some HEADER-NUMBERS
+  unfolding eight_stand
+  eight-stands h = go (standing heads MODES-START d) refl h
+    where
+      go : (o : Option ℕ) → standing heads MODES-START d ≡ o → is_some o ≡ true → standing heads MODES-START d ≡ Some HEADER-NUMBERS
+      go (Some q) e k = let i : q ≡ HEADER-NUMBERS = omega (arith, stood_next heads MODES-START d q e) in e ∙ ap Some i
+      go None e k = let z : ◌≡◌ {A = ℕ} 0 1 = cc in absurd (omega arith)
 
-  three : n + 2 + 1 ≡ n + 3
-  three = omega arith
+  eight_stood : {p : ℕ} → standing heads MODES-START d ≡ Some p → (p ≡ HEADER-NUMBERS) × (eight_stand s d ≡ true)
+  unfolding eight_stand
+  eight_stood {p} h = (omega (arith, stood_next heads MODES-START d p h), rw h)
 
-  last : n + 3 + 1 ≡ n + 4
-  last = omega arith
-
-  four-stands : four_stand m s r a n d ≡ true → standing (four m s r a) n d ≡ Next (n + 4)
-  unfolding four_stand
-  four-stands h =
-      let k = and_split _ (place_stands a (n + 3) d) h in
-      let j = and_split _ (place_stands r (n + 2) d) k.0 in
-      let i = and_split (place_stands m n d) (place_stands s (n + 1) d) j.0 in
-      let t₃ = cons_stands (in_room a) [] (n + 3) d k.1 (none-stands (n + 3 + 1) d ∙ ap Next last) in
-      let t₂ = cons_stands (in_room r) _ (n + 2) d j.1 (moved _ d (n + 2 + 1) (n + 3) three t₃) in
-      let t₁ = cons_stands (in_room s) _ (n + 1) d i.1 (moved _ d (n + 1 + 1) (n + 2) two t₂) in
-      cons_stands (in_room m) _ n d i.0 t₁
-
-  four_stood : {p : ℕ} → standing (four m s r a) n d ≡ Next p → (p ≡ n + 4) × (four_stand m s r a n d ≡ true)
-  unfolding four_stand
-  four_stood {p} h =
-      let i₀ = cons_stood (in_room m) _ n d h in
-      let i₁ = cons_stood (in_room s) _ (n + 1) d i₀.1 in
-      let i₂ = cons_stood (in_room r) _ (n + 2) d (moved _ d (n + 2) (n + 1 + 1) (sym two) i₁.1) in
-      let i₃ = cons_stood (in_room a) _ (n + 3) d (moved _ d (n + 3) (n + 2 + 1) (sym three) i₂.1) in
-      (omega (arith, stood_next (four m s r a) n d p h), rw (i₀.0, i₁.0, i₂.0) i₃.0)
+-- the part of the room behind its first number is these eight
+pub counts-stand : (s : Sections) (d : List ℕ) {ok : Bool} {x₁ x₂ x₃ x₄ x₅ x₆ x₇ x₈ : ℕ}
+    → x₁ ≡ in_room s.modes → x₂ ≡ in_room s.states → x₃ ≡ in_room s.runs → x₄ ≡ in_room s.ascii
+    → x₅ ≡ in_room s.wide → x₆ ≡ in_room s.accepts → x₇ ≡ in_room s.escapes → x₈ ≡ in_room s.continuations → 16384 ≤ length d
+    → ok ≡ pointwise eqb (take 8 (drop MODES-START d)) (x₁ ∷ x₂ ∷ x₃ ∷ x₄ ∷ x₅ ∷ x₆ ∷ x₇ ∷ x₈ ∷ []) → ok ≡ eight_stand s d
+unfolding eight_stand
+counts-stand s d {x₁ = x₁} {x₂ = x₂} {x₃ = x₃} {x₄ = x₄} {x₅ = x₅} {x₆ = x₆} {x₇ = x₇} {x₈ = x₈} e₁ e₂ e₃ e₄ e₅ e₆ e₇ e₈ h k =
+    let e : (x₁ ∷ x₂ ∷ x₃ ∷ x₄ ∷ x₅ ∷ x₆ ∷ x₇ ∷ x₈ ∷ []) ≡ map in_room (eight s) = cc in
+    k ∙ ap (pointwise eqb (take 8 (drop MODES-START d))) e ∙ part_stands (map in_room (eight s)) MODES-START d (omega arith)
 
 -- The room of found sections
 
@@ -86,43 +78,31 @@ module _ (w d : List ℕ) (part : w ≡ words_part d) (limit : length w ≤ 8192
   unfolding words_part
   part_is = ap (λ (n : ℕ). take n (drop HEADER-NUMBERS d)) (sym count_is) ∙ sym part
 
-  module _ {s : Sections} (l : layout_of w ≡ Found s) where
-    abbrev one : List ℕ
-    one = four s.modes s.states s.runs s.ascii
-
-    abbrev other : List ℕ
-    other = four s.wide s.accepts s.escapes s.continuations
-
+  module _ {s : Sections} (l : layout_of w ≡ Ok s) where
     to : filled w s d ≡ true → padded (length d) (numbers w s) ≡ d
-    unfolding filled eight_stand header empty_behind
+    unfolding filled header empty_behind
     to h =
         let i = and_split (eight_stand s d) _ h in
         let j = and_split (flags_plain w s.accepts s.continuations) _ i.1 in
-        let f = and_split (four_stand s.modes s.states s.runs s.ascii MODES-START d)
-        (four_stand s.wide s.accepts s.escapes s.continuations WIDE-START d) i.0 in
-        let head = cons_stands (length w) (one ++ other) WORD-COUNT d (stands_in (length w) WORD-COUNT d (omega arith) count_is)
-        (append-stands one other MODES-START d (four-stands s.modes s.states s.runs s.ascii MODES-START d f.0)
-        (four-stands s.wide s.accepts s.escapes s.continuations WIDE-START d f.1)) in
+        let head = cons_stands (length w) (heads s d) WORD-COUNT d (stands_in (length w) WORD-COUNT d (omega arith) count_is) (eight-stands s d i.0) in
         let same = plain-made w l j.0 in
-        let words : standing (made w s) HEADER-NUMBERS d ≡ Next (HEADER-NUMBERS + length w) = rw same (stands-part w HEADER-NUMBERS d part_is) in
+        let words : standing (made w s) HEADER-NUMBERS d ≡ Some (HEADER-NUMBERS + length w) = rw same (stands-part w HEADER-NUMBERS d part_is) in
         go (standing (places w s) (length w + HEADER-NUMBERS) d) refl j.1
         (λ q k. append-stands (header w s) _ 0 d head (append-stands (made w s) _ HEADER-NUMBERS d words k))
       where
-        go : (o : Place) → standing (places w s) (length w + HEADER-NUMBERS) d ≡ o → empty_behind o d ≡ true
-            → ((q : ℕ) → standing (places w s) (HEADER-NUMBERS + length w) d ≡ Next q → standing (numbers w s) 0 d ≡ Next q)
+        go : (o : Option ℕ) → standing (places w s) (length w + HEADER-NUMBERS) d ≡ o → empty_behind o d ≡ true
+            → ((q : ℕ) → standing (places w s) (HEADER-NUMBERS + length w) d ≡ Some q → standing (numbers w s) 0 d ≡ Some q)
             → padded (length d) (numbers w s) ≡ d
-        go (Next q) g z k = let n : HEADER-NUMBERS + length w ≡ length w + HEADER-NUMBERS = omega arith in whole_stood _ d (k q (moved _ d _ _ n g)) z
-        go (Refused o) g z k = let y : ◌≡◌ {A = ℕ} 0 1 = cc in absurd (omega arith)
+        go (Some q) g z k = let n : HEADER-NUMBERS + length w ≡ length w + HEADER-NUMBERS = omega arith in whole_stood _ d (k q (moved _ d _ _ n g)) z
+        go None g z k = let y : ◌≡◌ {A = ℕ} 0 1 = cc in absurd (omega arith)
 
     from : padded (length d) (numbers w s) ≡ d → filled w s d ≡ true
-    unfolding filled eight_stand header empty_behind
+    unfolding filled header empty_behind
     from h =
         let i = whole-stands (numbers w s) d h in
-        let k₀ = append_stood (length w ∷ (one ++ other)) _ 0 d i.0 in
-        let k₁ = append_stood one other MODES-START d (cons_stood (length w) _ WORD-COUNT d k₀.1).1 in
-        let f = four_stood s.modes s.states s.runs s.ascii MODES-START d k₁.1 in
-        let g = four_stood s.wide s.accepts s.escapes s.continuations WIDE-START d (moved other d WIDE-START k₁.0 (sym f.0) k₁.2) in
-        let q₉ : k₀.0 ≡ HEADER-NUMBERS = g.0 in
+        let k₀ = append_stood (header w s) _ 0 d i.0 in
+        let f = eight_stood s d (cons_stood (length w) _ WORD-COUNT d k₀.1).1 in
+        let q₉ : k₀.0 ≡ HEADER-NUMBERS = f.0 in
         let k₂ = append_stood (made w s) (places w s) HEADER-NUMBERS d (moved _ d HEADER-NUMBERS k₀.0 (sym q₉) k₀.2) in
         let n = stood_next (made w s) HEADER-NUMBERS d _ k₂.1 in
         let o : k₂.0 ≡ length w + HEADER-NUMBERS = omega (arith, n, made-length w l) in
@@ -130,7 +110,7 @@ module _ (w d : List ℕ) (part : w ≡ words_part d) (limit : length w ≤ 8192
         sym (stood_is (made w s) HEADER-NUMBERS d _ k₂.1) ∙ ap (λ (p : ℕ). take p (drop HEADER-NUMBERS d)) (made-length w l) ∙ part_is in
         let b = made_plain w l same in
         let t = moved (places w s) d (length w + HEADER-NUMBERS) k₂.0 (sym o) k₂.2 in
-        rw (f.1, g.1, b, t) i.1
+        rw (f.1, b, t) i.1
 
     -- all tests hold exactly where the room is what is written
     filled_is : filled w s d ≡ same_list (padded (length d) (numbers w s)) d
@@ -150,32 +130,32 @@ not_table = unfound NOT-TABLE 0
 
 module _ (w d : List ℕ) where
   module _ {s : Sections} where
-    table_is : Part w d → layout_of w ≡ Found s → table_in d ≡ pick (sound w s d) (Found s) not_table
+    table_is : Part w d → layout_of w ≡ Ok s → table_in d ≡ pick (sound w s d) (Ok s) not_table
     unfolding table_in is_table sound decoded_from judged kept_from room_for
     table_is p f =
         let i = filled_is w d p.is p.limit p.room f in
         rw (← p.is, laid_is w d p.is p.limit p.room, f, i) (go (eqb (broken w s) 0))
       where
         go : (t : Bool) → pick
-            (accepted (pick t (Table (get_or w s.modes 0) (get_or w s.states 0) (length w)) (decoded.Refused (broken_by (broken w s) (broken_item w s))))
-            && same_list (pick t (padded (length d) (numbers w s)) (zeros (length d))) d) (Found s) not_table
-            ≡ pick (t && same_list (padded (length d) (numbers w s)) d) (Found s) not_table
+            (accepted (pick t (Ok (counts w s)) (Err (broken_by (broken w s) (broken_item w s))))
+            && same_list (pick t (padded (length d) (numbers w s)) (zeros (length d))) d) (Ok s) not_table
+            ≡ pick (t && same_list (padded (length d) (numbers w s)) d) (Ok s) not_table
         go true = refl
         go false = refl
 
-    pub is_there : {got : Layout} {ok : Bool} → Part w d → got ≡ layout_of w → got ≡ Found s → ok ≡ sound w s d → ok ≡ true → Found s ≡ table_in d
+    pub is_there : {got : Layout} {ok : Bool} → Part w d → got ≡ layout_of w → got ≡ Ok s → ok ≡ sound w s d → ok ≡ true → Ok s ≡ table_in d
     is_there p g f o y = sym (table_is p (sym g ∙ f) ∙ (rw (← o, y)))
 
-    pub is_other : {got : Layout} {ok : Bool} {n : Layout} → Part w d → got ≡ layout_of w → got ≡ Found s → ok ≡ sound w s d → ok ≡ false
+    pub is_other : {got : Layout} {ok : Bool} {n : Layout} → Part w d → got ≡ layout_of w → got ≡ Ok s → ok ≡ sound w s d → ok ≡ false
         → n ≡ not_table → n ≡ table_in d
     is_other p g f o y h = h ∙ sym (table_is p (sym g ∙ f) ∙ (rw (← o, y)))
 
-  pub is_unlaid : {got : Layout} {o : Refusal} {n : Layout} → Part w d → got ≡ layout_of w → got ≡ Unfound o → n ≡ not_table → n ≡ table_in d
+  pub is_unlaid : {got : Layout} {o : Refusal} {n : Layout} → Part w d → got ≡ layout_of w → got ≡ Err o → n ≡ not_table → n ≡ table_in d
   unfolding table_in is_table decoded_from
   is_unlaid p g f h = let i = laid_is w d p.is p.limit p.room ∙ sym g ∙ f in h ∙ (rw (← p.is, i))
 
 module _ (d : List ℕ) {n : Layout} where
-  refused_is : {o : Refusal} → laid_out (words_part d) (length d) ≡ Unfound o → n ≡ not_table → n ≡ table_in d
+  refused_is : {o : Refusal} → laid_out (words_part d) (length d) ≡ Err o → n ≡ not_table → n ≡ table_in d
   unfolding table_in is_table decoded_from
   refused_is i h = h ∙ (rw i)
 
@@ -213,24 +193,6 @@ pub ruleset measuring = (rules, too_short_lem, too_many, words_part_lem, words_f
 
 -- What comparing all numbers is left with
 
--- the place behind a list is within the room exactly where the list stands
-module _ (xs : List ℕ) (n : ℕ) (d : List ℕ) {p : ℕ} where
-  past : p ≡ place_after (standing xs n d) d → n ≤ length d → length d < p → false ≡ empty_behind (standing xs n d) d
-  unfolding place_after empty_behind
-  past g l f = go (standing xs n d) refl g
-    where
-      go : (o : Place) → standing xs n d ≡ o → p ≡ place_after o d → false ≡ empty_behind o d
-      go (Next q) i k = absurd (omega (arith, stood_within xs n d q l i))
-      go (Refused q) i k = refl
-
-  here : p ≡ place_after (standing xs n d) d → p ≤ length d → empty_from p d ≡ empty_behind (standing xs n d) d
-  unfolding place_after empty_behind
-  here g f = go (standing xs n d) g
-    where
-      go : (o : Place) → p ≡ place_after o d → empty_from p d ≡ empty_behind o d
-      go (Next q) k = rw k
-      go (Refused q) k = absurd (omega arith)
-
 module _ (w d : List ℕ) (s : Sections) where
   pub filled_head : {ok : Bool} → ok ≡ eight_stand s d → ok ≡ false → false ≡ filled w s d
   unfolding filled
@@ -240,40 +202,36 @@ module _ (w d : List ℕ) (s : Sections) where
   unfolding filled
   filled-flags o y u z = rw (← o, y, ← u, z)
 
-  module _ {ok t : Bool} {p : ℕ} where
-    pub filled-places : ok ≡ eight_stand s d → ok ≡ true → t ≡ flags_plain w s.accepts s.continuations → t ≡ true
-        → p ≡ place_after (standing (places w s) (length w + HEADER-NUMBERS) d) d
-        → length w ≤ 8192 → 16384 ≤ length d → length d < p → false ≡ filled w s d
-    unfolding filled
-    filled-places o y u z g h l f = rw (← o, y, ← u, z) (past (places w s) (length w + HEADER-NUMBERS) d g (omega arith) f)
+  module _ {ok t : Bool} {got : Option ℕ} (o : ok ≡ eight_stand s d) (y : ok ≡ true) (u : t ≡ flags_plain w s.accepts s.continuations) (z : t ≡ true)
+      (g : got ≡ standing (places w s) (length w + HEADER-NUMBERS) d) where
+    pub filled-places : got ≡ None → false ≡ filled w s d
+    unfolding filled empty_behind
+    filled-places i = rw (← o, y, ← u, z, ← g, i)
 
-    pub filled_all : {n : Bool} → ok ≡ eight_stand s d → ok ≡ true → t ≡ flags_plain w s.accepts s.continuations → t ≡ true
-        → p ≡ place_after (standing (places w s) (length w + HEADER-NUMBERS) d) d
-        → p ≤ length d → n ≡ empty_from p d → n ≡ filled w s d
-    unfolding filled
-    filled_all o y u z g f h = h ∙ (rw (← o, y, ← u, z) (here (places w s) (length w + HEADER-NUMBERS) d g f))
+    -- the room behind them, as `&room[p..]` reads it
+    pub filled_within : {p : ℕ} → got ≡ Some p → length w ≤ 8192 → 16384 ≤ length d → p ≤ length d
+    filled_within {p} i l k = stood_within (places w s) (length w + HEADER-NUMBERS) d p (omega arith) (sym g ∙ i)
+
+    pub filled_all : {p : ℕ} {n : Bool} → got ≡ Some p → n ≡ every (λ x. eqb x 0) (take (length d - p) (drop p d)) → n ≡ filled w s d
+    unfolding filled empty_behind empty_from
+    filled_all {p} i h =
+        let a : take (length d - p) (drop p d) ≡ drop p d = take_all (length d - p) (drop p d) (omega (arith, length-drop p d)) in
+        h ∙ (rw (← o, y, ← u, z, ← g, i, a))
 
 -- no rule is broken, or one is
-module _ (w d : List ℕ) (s : Sections) {q : Broken} where
-  pub sound-filled : {n : Bool} → q ≡ first_in w s → q.rule ≡ 0 → n ≡ filled w s d → n ≡ sound w s d
+module _ (w d : List ℕ) (s : Sections) {q : Option Broken} (b : q ≡ first_in w s) where
+  pub sound-filled : {n : Bool} → q ≡ None → n ≡ filled w s d → n ≡ sound w s d
   unfolding sound
-  sound-filled b z h = let y : broken w s ≡ 0 = cc in h ∙ (rw y)
+  sound-filled z h = let y : broken w s ≡ 0 = unbroken w s b z in h ∙ (rw y)
 
-  pub sound-broken : q ≡ first_in w s → (q.rule ≡ 0 → ⊥) → false ≡ sound w s d
+  pub sound-broken : {r : Broken} → q ≡ Some r → false ≡ sound w s d
   unfolding sound
-  sound-broken b z = rw (ne_eqb (broken w s) 0 (λ e. z (let x : q.rule ≡ 0 = cc in x)))
+  sound-broken z = let k = breaks w s b z in rw k.some
 
--- the sections of few words
-pub few : (w : List ℕ) {s : Sections} → layout_of w ≡ Found s → length w ≤ 8192 → Few s
-few w h k = record {
-  modes = omega (arith, modes_there w h);
-  states = omega (arith, states_there w h);
-  runs = omega (arith, runs_there w h);
-  ascii = omega (arith, ascii_there w h);
-  wide = omega (arith, wide_there w h);
-  accepts = omega (arith, accepts_there w h);
-  escapes = omega (arith, escapes_there w h);
-  continuations = omega (arith, continuations_there w h);
-}
+-- a count is one of few words
+pub few : {p : ℕ} (n : ℕ) → p < n → n ≤ 8192 → p ≤ 8192
+few n h k = omega arith
 
-pub ruleset filling = (rules, few, sound-filled, sound-broken, filled_head, filled-flags, filled-places, filled_all)
+pub ruleset heading = (rules, there, few)
+
+pub ruleset filling = (rules, sound-filled, sound-broken, filled_head, filled-flags, filled-places, filled_within, filled_all)

@@ -10,13 +10,12 @@ use lib.Seq.{length-take-le, take-length}
 use borrow.Author.Tests.{le-leb, leb-true, eqb-true, eq-eqb}
 use Rattle.refusal.proofs.Lists.{and_split}
 use Rattle.refusal.specs.Lists.{pick, each}
-use Rattle.word_reader.specs.declared.Place.{Place}
-use Rattle.word_reader.specs.declared.Place.TheVariants.{Next, Refused}
+use Rattle.word_reader.specs.Parse.{Place}
+use Rattle.std.specs.Prelude.{Ok, Err, Some}
 use Rattle.word_reader.specs.Parse.{and_then, many, section}
 use Rattle.word_reader.specs.Records.{accept_at, config_at, continuation_at}
 use Rattle.word_reader.proofs.Bounds.{accept-sized, config_sized, configs_behind, section_in}
 use Rattle.word_reader.specs.declared.Sections.{Sections}
-use Rattle.word_layout.specs.declared.Layout.TheVariants.{Found}
 use Rattle.word_layout.specs.Layout.{layout_of}
 use Rattle.word_layout.proofs.Found.{found, order}
 use Rattle.rule_words.specs.Rules as rules
@@ -51,46 +50,46 @@ kept_plain x h = le-leb x 1 (go (eqb x 0) h)
     go false e = omega arith
 
 -- words that are copied stand where they were
-copied-stands : (w : List ℕ) (at n : ℕ) → at + n ≤ length w → standing (copied w at n) at w ≡ Next (at + n)
+copied-stands : (w : List ℕ) (at n : ℕ) → at + n ≤ length w → standing (copied w at n) at w ≡ Some (at + n)
 unfolding copied
 copied-stands w at n h =
     let l : length (take n (drop at w)) ≡ n = length-take-le n (drop at w) (omega (arith, length-drop at w)) in
-    stands-part (take n (drop at w)) at w (ap (λ (k : ℕ). take k (drop at w)) l) ∙ ap (λ (k : ℕ). Next (at + k)) l
+    stands-part (take n (drop at w)) at w (ap (λ (k : ℕ). take k (drop at w)) l) ∙ ap (λ (k : ℕ). Some (at + k)) l
 
 -- Records: the test of a record that was read says whether what is written for it stands where it was read
 abbrev Agrees : (List ℕ → ℕ → Place) → (List ℕ → ℕ → List ℕ) → (ℕ → Bool) → List ℕ → Type 0
-Agrees read f test w = (s p : ℕ) → read w s ≡ Next p
-    → (test s ≡ true → standing (f w s) s w ≡ Next p) × ((q : ℕ) → standing (f w s) s w ≡ Next q → (q ≡ p) × (test s ≡ true))
+Agrees read f test w = (s p : ℕ) → read w s ≡ Ok p
+    → (test s ≡ true → standing (f w s) s w ≡ Some p) × ((q : ℕ) → standing (f w s) s w ≡ Some q → (q ≡ p) × (test s ≡ true))
 
 module _ (read : List ℕ → ℕ → Place) (f : List ℕ → ℕ → List ℕ) (test : ℕ → Bool) (w : List ℕ) (k : Agrees read f test w) where
   abbrev Each : ℕ → ℕ → ℕ → Type 0
   Each n at p =
-      (rest test (read w) n at ≡ true → standing (each (f w) (starts (read w) n at)) at w ≡ Next p)
-      × ((q : ℕ) → standing (each (f w) (starts (read w) n at)) at w ≡ Next q → (q ≡ p) × (rest test (read w) n at ≡ true))
+      (rest test (read w) n at ≡ true → standing (each (f w) (starts (read w) n at)) at w ≡ Some p)
+      × ((q : ℕ) → standing (each (f w) (starts (read w) n at)) at w ≡ Some q → (q ≡ p) × (rest test (read w) n at ≡ true))
 
-  each_agrees : (n at p : ℕ) → many (read w) n at ≡ Next p → Each n at p
+  each_agrees : (n at p : ℕ) → many (read w) n at ≡ Ok p → Each n at p
   unfolding many and_then each starts starts_from walk every_from standing
-  each_agrees zero at p e = (λ h. e, λ q h. (next_is (sym h ∙ e), refl))
+  each_agrees zero at p e = let i : at ≡ p = cc in (λ h. ap Some i, λ q h. (sym (next_is h) ∙ i, refl))
   each_agrees (suc n) at p e = go (read w at) refl (each_agrees n) e
     where
-      go : (o : Place) → read w at ≡ o → ((a q : ℕ) → many (read w) n a ≡ Next q → Each n a q) → and_then o (many (read w) n) ≡ Next p
-          → ((test at && every_from o (rest test (read w) n)) ≡ true → standing (each (f w) (starts_from o at (starts (read w) n))) at w ≡ Next p)
-          × ((q : ℕ) → standing (each (f w) (starts_from o at (starts (read w) n))) at w ≡ Next q
+      go : (o : Place) → read w at ≡ o → ((a q : ℕ) → many (read w) n a ≡ Ok q → Each n a q) → and_then o (many (read w) n) ≡ Ok p
+          → ((test at && every_from o (rest test (read w) n)) ≡ true → standing (each (f w) (starts_from o at (starts (read w) n))) at w ≡ Some p)
+          × ((q : ℕ) → standing (each (f w) (starts_from o at (starts (read w) n))) at w ≡ Some q
           → (q ≡ p) × ((test at && every_from o (rest test (read w) n)) ≡ true))
-      go (Next m) u rec v = (to, from)
+      go (Ok m) u rec v = (to, from)
         where
-          to : (test at && rest test (read w) n m) ≡ true → standing (f w at ++ each (f w) (starts (read w) n m)) at w ≡ Next p
+          to : (test at && rest test (read w) n m) ≡ true → standing (f w at ++ each (f w) (starts (read w) n m)) at w ≡ Some p
           to h =
               let s = and_split (test at) (rest test (read w) n m) h in
               append-stands (f w at) _ at w ((k at m u).0 s.0) ((rec m p v).0 s.1)
 
-          from : (q : ℕ) → standing (f w at ++ each (f w) (starts (read w) n m)) at w ≡ Next q → (q ≡ p) × ((test at && rest test (read w) n m) ≡ true)
+          from : (q : ℕ) → standing (f w at ++ each (f w) (starts (read w) n m)) at w ≡ Some q → (q ≡ p) × ((test at && rest test (read w) n m) ≡ true)
           from q h =
               let s = append_stood (f w at) _ at w h in
               let i = (k at m u).1 s.0 s.1 in
-              let j = (rec m p v).1 q (subst (λ a. standing (each (f w) (starts (read w) n m)) a w ≡ Next q) i.0 s.2) in
+              let j = (rec m p v).1 q (subst (λ a. standing (each (f w) (starts (read w) n m)) a w ≡ Some q) i.0 s.2) in
               (j.0, rw i.1 j.1)
-      go (Refused r) u rec v = let z : ◌≡◌ {A = ℕ} 0 1 = cc in absurd (omega arith)
+      go (Err r) u rec v = let z : ◌≡◌ {A = ℕ} 0 1 = cc in absurd (omega arith)
 
   section_agrees : Agrees (section read) (renewed read f) (every_in read test w) w
   unfolding renewed every_in rules.every
@@ -108,18 +107,18 @@ accept_agrees w s p e = (to, from)
     sized : (p ≡ s + 3 + get_or w (s + 2) 0 * 3) × (p ≤ length w)
     sized = accept-sized w s p e
 
-    copy : standing (copied w (s + 2) (get_or w (s + 2) 0 * 3 + 1)) (s + 1 + 1) w ≡ Next p
+    copy : standing (copied w (s + 2) (get_or w (s + 2) 0 * 3 + 1)) (s + 1 + 1) w ≡ Some p
     copy =
         let i : s + 1 + 1 ≡ s + 2 = omega arith in
         let j : s + 2 + (get_or w (s + 2) 0 * 3 + 1) ≡ p = omega (arith, sized.0) in
-        rw i (copied-stands w (s + 2) (get_or w (s + 2) 0 * 3 + 1) (omega (arith, sized.0, sized.1)) ∙ ap Next j)
+        rw i (copied-stands w (s + 2) (get_or w (s + 2) 0 * 3 + 1) (omega (arith, sized.0, sized.1)) ∙ ap Some j)
 
-    to : plain (get_or w (s + 1) 0) ≡ true → standing (get_or w s 0 ∷ flag (get_or w (s + 1) 0) ∷ copied w (s + 2) (get_or w (s + 2) 0 * 3 + 1)) s w ≡ Next p
+    to : plain (get_or w (s + 1) 0) ≡ true → standing (get_or w s 0 ∷ flag (get_or w (s + 1) 0) ∷ copied w (s + 2) (get_or w (s + 2) 0 * 3 + 1)) s w ≡ Some p
     to h =
         cons_stands (get_or w s 0) _ s w (stands_in _ s w (omega (arith, sized.0, sized.1)) refl)
         (cons_stands (flag (get_or w (s + 1) 0)) _ (s + 1) w (stands_in _ (s + 1) w (omega (arith, sized.0, sized.1)) (plain_kept (get_or w (s + 1) 0) h)) copy)
 
-    from : (q : ℕ) → standing (get_or w s 0 ∷ flag (get_or w (s + 1) 0) ∷ copied w (s + 2) (get_or w (s + 2) 0 * 3 + 1)) s w ≡ Next q
+    from : (q : ℕ) → standing (get_or w s 0 ∷ flag (get_or w (s + 1) 0) ∷ copied w (s + 2) (get_or w (s + 2) 0 * 3 + 1)) s w ≡ Some q
         → (q ≡ p) × (plain (get_or w (s + 1) 0) ≡ true)
     from q h =
         let i = cons_stood (flag (get_or w (s + 1) 0)) _ (s + 1) w (cons_stood (get_or w s 0) _ s w h).1 in
@@ -132,10 +131,10 @@ config_agrees w s p e = (to, from)
     sized : (p ≡ s + 6 + get_or w (s + 5) 0 * 3) × (p ≤ length w)
     sized = config_sized w s p e
 
-    copy : standing (copied w (s + 4) (get_or w (s + 5) 0 * 3 + 2)) (s + 4) w ≡ Next p
+    copy : standing (copied w (s + 4) (get_or w (s + 5) 0 * 3 + 2)) (s + 4) w ≡ Some p
     copy =
         let j : s + 4 + (get_or w (s + 5) 0 * 3 + 2) ≡ p = omega (arith, sized.0) in
-        copied-stands w (s + 4) (get_or w (s + 5) 0 * 3 + 2) (omega (arith, sized.0, sized.1)) ∙ ap Next j
+        copied-stands w (s + 4) (get_or w (s + 5) 0 * 3 + 2) (omega (arith, sized.0, sized.1)) ∙ ap Some j
 
     two : s + 1 + 1 ≡ s + 2
     two = omega arith
@@ -148,7 +147,7 @@ config_agrees w s p e = (to, from)
 
     to : (plain (get_or w (s + 2) 0) && plain (get_or w (s + 3) 0)) ≡ true
         → standing (get_or w s 0 ∷ get_or w (s + 1) 0 ∷ flag (get_or w (s + 2) 0) ∷ flag (get_or w (s + 3) 0) ∷ copied w (s + 4) (get_or w (s + 5) 0 * 3 + 2)) s w
-        ≡ Next p
+        ≡ Some p
     to h =
         let b = and_split (plain (get_or w (s + 2) 0)) (plain (get_or w (s + 3) 0)) h in
         let l = sized in
@@ -160,7 +159,7 @@ config_agrees w s p e = (to, from)
         cons_stands (get_or w s 0) _ s w (stands_in _ s w (omega (arith, l.0, l.1)) refl) i₁
 
     from : (q : ℕ) → standing
-        (get_or w s 0 ∷ get_or w (s + 1) 0 ∷ flag (get_or w (s + 2) 0) ∷ flag (get_or w (s + 3) 0) ∷ copied w (s + 4) (get_or w (s + 5) 0 * 3 + 2)) s w ≡ Next q
+        (get_or w s 0 ∷ get_or w (s + 1) 0 ∷ flag (get_or w (s + 2) 0) ∷ flag (get_or w (s + 3) 0) ∷ copied w (s + 4) (get_or w (s + 5) 0 * 3 + 2)) s w ≡ Some q
         → (q ≡ p) × ((plain (get_or w (s + 2) 0) && plain (get_or w (s + 3) 0)) ≡ true)
     from q h =
         let i₁ = (cons_stood (get_or w s 0) _ s w h).1 in
@@ -181,12 +180,12 @@ continuation_agrees w s p e =
     let j = section_agrees config_at config_made (config_plain w) w (config_agrees w) (s + n) p b in (
       λ h. append-stands (copied w s n) _ s w c (j.0 h),
       λ q h. let k = append_stood (copied w s n) _ s w h in
-          j.1 q (subst (λ a. standing (renewed config_at config_made w (s + n)) a w ≡ Next q) (next_is (sym k.1 ∙ c)) k.2),
+          j.1 q (subst (λ a. standing (renewed config_at config_made w (s + n)) a w ≡ Some q) (next_is (sym k.1 ∙ c)) k.2),
     )
 
 -- All flags
 
-module _ (w : List ℕ) {s : Sections} (laid : layout_of w ≡ Found s) where
+module _ (w : List ℕ) {s : Sections} (laid : layout_of w ≡ Ok s) where
   abbrev x : ℕ
   x = s.accepts
 
@@ -202,17 +201,17 @@ module _ (w : List ℕ) {s : Sections} (laid : layout_of w ≡ Found s) where
   abbrev continuations : List ℕ
   continuations = renewed continuation_at continuation_made w c
 
-  between : standing (copied w e (c - e)) e w ≡ Next c
+  between : standing (copied w e (c - e)) e w ≡ Some c
   between =
       let o = order w laid in
       let i : e + (c - e) ≡ c = omega (arith, o.continuations) in
-      copied-stands w e (c - e) (omega (arith, o.continuations, o.all)) ∙ ap Next i
+      copied-stands w e (c - e) (omega (arith, o.continuations, o.all)) ∙ ap Some i
 
-  before : standing (copied w 0 x) 0 w ≡ Next x
+  before : standing (copied w 0 x) 0 w ≡ Some x
   before =
       let o = order w laid in
       let i : 0 + x ≡ x = omega arith in
-      copied-stands w 0 x (omega (arith, o.escapes, o.continuations, o.all)) ∙ ap Next i
+      copied-stands w 0 x (omega (arith, o.escapes, o.continuations, o.all)) ∙ ap Some i
 
   pub plain-made : flags_plain w x c ≡ true → made w s ≡ w
   unfolding flags_plain
@@ -233,11 +232,11 @@ module _ (w : List ℕ) {s : Sections} (laid : layout_of w ≡ Found s) where
       let t : take (length all) w ≡ all = ap (λ (o : List ℕ). take (length o) w) h ∙ take-length w ∙ sym h in
       let k₀ = append_stood (copied w 0 x) _ 0 w (stands-part all 0 w t) in
       let k₁ = append_stood accepts _ x w
-      (subst (λ q. standing (accepts ++ (copied w e (c - e) ++ continuations)) q w ≡ Next (0 + length all)) (next_is (sym k₀.1 ∙ before)) k₀.2) in
+      (subst (λ q. standing (accepts ++ (copied w e (c - e) ++ continuations)) q w ≡ Some (0 + length all)) (next_is (sym k₀.1 ∙ before)) k₀.2) in
       let i = (section_agrees accept_at accept_made (accept_plain w) w (accept_agrees w) x e (found w laid).accepts).1 k₁.0 k₁.1 in
       let k₂ = append_stood (copied w e (c - e)) continuations e w
-      (subst (λ q. standing (copied w e (c - e) ++ continuations) q w ≡ Next (0 + length all)) i.0 k₁.2) in
-      let k₃ = subst (λ q. standing continuations q w ≡ Next (0 + length all)) (next_is (sym k₂.1 ∙ between)) k₂.2 in
+      (subst (λ q. standing (copied w e (c - e) ++ continuations) q w ≡ Some (0 + length all)) i.0 k₁.2) in
+      let k₃ = subst (λ q. standing continuations q w ≡ Some (0 + length all)) (next_is (sym k₂.1 ∙ between)) k₂.2 in
       let j = (section_agrees continuation_at continuation_made (continuation_plain w) w (continuation_agrees w) c (length w)
       (found w laid).continuations).1 (0 + length all) k₃ in
       rw i.1 j.1

@@ -1,14 +1,11 @@
 -- Which rooms are tables: document 01, "Encoding and coverage give NOT-TABLE exactly when the room isn't what decoding leaves for some
 -- accepted words". Assumes nothing.
-use Rattle.std.specs.Prelude.{ℕ, ◌≤◌, ◌≡◌, List, Bool, true, false, ◌&&◌, length, take, drop}
+use Rattle.std.specs.Prelude.{ℕ, ◌≤◌, ◌≡◌, List, Bool, ◌&&◌, is_ok, length, take, drop}
 use Rattle.refusal.specs.Said.{NOT-TABLE}
 use Rattle.refusal.specs.Lists.{pick, same_list}
 use Rattle.refusal.specs.Header.{HEADER-NUMBERS, word_count}
-use Rattle.word_layout.specs.declared.Layout.{Layout}
-use Rattle.word_layout.specs.Layout.{unfound, layout_of}
-use Rattle.room_decode.specs.declared.Decoded.{Decoded}
-use Rattle.room_decode.specs.declared.Decoded.TheVariants.{Table, Refused}
-use Rattle.room_decode.specs.Decode.{decode_of, room_of}
+use Rattle.word_layout.specs.Layout.{Layout, unfound, layout_of}
+use Rattle.room_decode.specs.Decode.{Decoding, decode_of, room_of}
 
 -- the words of a room: as many as its first number says, behind its header
 unfoldable pub words_part : List ℕ → List ℕ
@@ -20,9 +17,8 @@ pub record Part (w d : List ℕ) : Type 0 where
   pub limit : length w ≤ 8192
   pub room : 16384 ≤ length d
 
-abbrev pub accepted : Decoded → Bool
-accepted (Table modes states words) = true
-accepted (Refused r) = false
+abbrev pub accepted : Decoding → Bool
+accepted = is_ok
 
 -- a room is a table where its own words are accepted, into as many numbers, and decoding them leaves the room itself
 unfoldable pub is_table : List ℕ → Bool
