@@ -7,6 +7,7 @@ ghost use Rattle.list_masks.specs.Answer as masking;
 ghost use Rattle.c_masks.specs.Answers.{masks_in_c, MatrixInC, DistinctInC};
 
 use list_masks::Masks;
+use refusal::Refusal;
 
 // How many masks there are, and of how many words each.
 #[repr(C)]
@@ -19,21 +20,18 @@ pub struct CMasks {
     pub words: usize,
 }
 
-fn masks_in_c(answer: Masks) -> CMasks
+fn masks_in_c(answer: Result<Masks, Refusal>) -> CMasks
     ensures { result ≡ masks_in_c (masking.said answer) }
 {
     match answer {
-        Masks::Count {
-            masks: count,
-            words,
-        } => CMasks {
+        Ok(found) => CMasks {
             number: 0,
             item: 0,
             place: 0,
-            masks: count,
-            words,
+            masks: found.masks,
+            words: found.words,
         },
-        Masks::Refused(no) => CMasks {
+        Err(no) => CMasks {
             number: no.number,
             item: no.item,
             place: no.place,

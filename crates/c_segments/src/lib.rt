@@ -6,7 +6,7 @@ ghost use Rattle.std.specs.Prelude.{◌≡◌, length};
 ghost use Rattle.list_segments.specs.Answer as cutting;
 ghost use Rattle.c_segments.specs.Answers.{segments_in_c};
 
-use list_segments::Segments;
+use refusal::Refusal;
 
 #[repr(C)]
 #[derive(Clone, Copy)]
@@ -17,17 +17,17 @@ pub struct CSegments {
     pub segments: usize,
 }
 
-fn segments_in_c(answer: Segments) -> CSegments
+fn segments_in_c(answer: Result<usize, Refusal>) -> CSegments
     ensures { result ≡ segments_in_c (cutting.said answer) }
 {
     match answer {
-        Segments::Count(n) => CSegments {
+        Ok(n) => CSegments {
             number: 0,
             item: 0,
             place: 0,
             segments: n,
         },
-        Segments::Refused(refused) => CSegments {
+        Err(refused) => CSegments {
             number: refused.number,
             item: refused.item,
             place: refused.place,

@@ -8,6 +8,7 @@ ghost use Rattle.list_transitions.specs.Ends as ending;
 ghost use Rattle.c_transitions.specs.Answers.{transitions_in_c};
 
 use list_transitions::Transitions;
+use refusal::Refusal;
 
 // How many transitions a list has, and how many intervals they have together.
 #[repr(C)]
@@ -20,18 +21,18 @@ pub struct CTransitions {
     pub intervals: usize,
 }
 
-fn transitions_in_c(answer: Transitions) -> CTransitions
+fn transitions_in_c(answer: Result<Transitions, Refusal>) -> CTransitions
     ensures { result ≡ transitions_in_c (reading.said answer) }
 {
     match answer {
-        Transitions::Read { count, intervals } => CTransitions {
+        Ok(read) => CTransitions {
             number: 0,
             item: 0,
             place: 0,
-            transitions: count,
-            intervals,
+            transitions: read.count,
+            intervals: read.intervals,
         },
-        Transitions::Refused(refusal) => CTransitions {
+        Err(refusal) => CTransitions {
             number: refusal.number,
             item: refusal.item,
             place: refusal.place,

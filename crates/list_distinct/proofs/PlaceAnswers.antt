@@ -8,6 +8,7 @@ use borrow.Author.Rules.{rules}
 use borrow.Author.Tests.{lt-ltb, le-ltb, ltb-false}
 use lib.Dec.{ltb}
 use lib.ListN.{length, get_or, length-replicate, length-append}
+use Rattle.std.specs.Prelude.{Result, Ok, Err}
 use Rattle.refusal.specs.declared.Refusal.{Refusal}
 use Rattle.refusal.specs.Said.{Said, ok, refusal_at, no_by, ROOM}
 use Rattle.refusal.specs.Lists.{pick}
@@ -19,14 +20,12 @@ use Rattle.list_segments.specs.Segments.{cuts_of, starts}
 use Rattle.list_segments.specs.Answer.{parse_for, segments_in}
 use Rattle.list_segments.proofs.Answers.{few_segments}
 use Rattle.list_masks.specs.declared.Masks.{Masks}
-use Rattle.list_masks.specs.declared.Masks.TheVariants.{Count, Refused}
 use Rattle.list_masks.specs.Masks.{words_for, matrix, flat, distinct, distinct_of, places_in, places_of}
 use Rattle.list_masks.specs.Answer.{said, parse_masks, parse_distinct, counted, masks_in, Matrix}
 use Rattle.list_masks.proofs.Packs.{length_masks, Wide, wide_masks, length-flat, few_wide}
 use Rattle.list_masks.proofs.Keeps.{wide_distinct}
 use Rattle.list_masks.proofs.Answers.{few_from}
 use Rattle.list_distinct.specs.declared.Places.{Places}
-use Rattle.list_distinct.specs.declared.Places.TheVariants as place
 use Rattle.list_distinct.specs.Walk.{chunks, Gathered, Spaced, Zeroed, Cleared}
 use Rattle.list_distinct.specs.Answer.{told, parse_places, found_in, placed_in, Placed}
 use Rattle.list_distinct.proofs.Distincts.{chunks-flat, few_distinct, length-places}
@@ -54,11 +53,11 @@ pub accepted_list : (s n d : ℕ) (w : List ℕ) (ts : List Transition) → pars
 unfolding parse_distinct
 accepted_list s n d w ts e = all_room s n w ts (not_short (ltb d 8192) e)
 
-each : (s n : ℕ) (w : List ℕ) (c k : ℕ) (ms : List ℕ) (x : Parsed) → parse_masks s n w ≡ x → said (Count c k) ≡ counted matrix x →
-    ms ≡ masks_in matrix n x → Each s n w c k ms
+each : (s n : ℕ) (w : List ℕ) (m : Masks) (ms : List ℕ) (x : Parsed) → parse_masks s n w ≡ x → said (Ok m) ≡ counted matrix x →
+    ms ≡ masks_in matrix n x → Each s n w m.masks m.words ms
 unfolding counted masks_in
-each s n w c k ms (parsed ts) e f l = record { ts = ts; is = e; good = all_room s n w ts e; masks = cc; words = cc; leaves = l }
-each s n w c k ms (refused a b) e f l = let z : ◌≡◌ {A = ℕ} 0 1 = cc in absurd (omega arith)
+each s n w m ms (parsed ts) e f l = record { ts = ts; is = e; good = all_room s n w ts e; masks = cc; words = cc; leaves = l }
+each s n w m ms (refused a b) e f l = let z : ◌≡◌ {A = ℕ} 0 1 = cc in absurd (omega arith)
 
 -- no list has more than 256 transitions and 2,047 segments
 few_of : (w : List ℕ) (ts : List Transition) → parse w ≡ parsed ts → (length ts ≤ 256) × (length (starts (cuts_of ts)) ≤ 2047)
@@ -67,19 +66,25 @@ few_of w ts e =
     let is : accepted (parse w) ≡ ts = ap accepted e in
     (rw is at (few_from w 256 0 0 (ap is_parsed e)), rw is at (few_segments w))
 
-no_masks : (s n d q : ℕ) (x : Parsed) (r : Refusal) (ns ms out ps : List ℕ) → said (Refused r) ≡ counted matrix x → ns ≡ segments_in s x →
-    ms ≡ masks_in matrix n x → out ≡ zeros d → ps ≡ zeros q → Placed (place.Refused r) s ns n ms d out q ps x
+no_masks : (s n d q : ℕ) (x : Parsed) (r : Refusal) (ns ms out ps : List ℕ) → said (Err r) ≡ counted matrix x → ns ≡ segments_in s x →
+    ms ≡ masks_in matrix n x → out ≡ zeros d → ps ≡ zeros q → Placed (Err r) s ns n ms d out q ps x
 unfolding counted masks_in found_in placed_in
 no_masks s n d q (parsed ts) r ns ms out ps e a b o p = let z : ◌≡◌ {A = ℕ} 0 1 = cc in absurd (omega arith)
 no_masks s n d q (refused k p) r ns ms out ps e a b o z = record { says = e; low_high = a; each = b; once = o; leaves = z }
 
 -- The masks of the list stand: their distinct ones and places, into buffers that hold zeros
 
-module _ (w a b d q : List ℕ) (z : Cleared d q) {got : Masks} {ns ms : List ℕ}
+module _ (w a b d q : List ℕ) (z : Cleared d q) {got : Result Masks Refusal} {ns ms : List ℕ}
     (g : Matrix got (length a) ns (length b) ms (parse_masks (length a) (length b) w)) where
-  module _ {c k : ℕ} (i : got ≡ Count c k) where
+  module _ {m : Masks} (i : got ≡ Ok m) where
+    abbrev c : ℕ
+    c = m.masks
+
+    abbrev k : ℕ
+    k = m.words
+
     of : Each (length a) (length b) w c k ms
-    of = each (length a) (length b) w c k ms (parse_masks (length a) (length b) w) refl (ap said (sym i) ∙ g.says) g.leaves
+    of = each (length a) (length b) w m ms (parse_masks (length a) (length b) w) refl (ap said (sym i) ∙ g.says) g.leaves
 
     abbrev us : List Transition
     us = of.ts
@@ -113,7 +118,7 @@ module _ (w a b d q : List ℕ) (z : Cleared d q) {got : Masks} {ns ms : List �
         ∙ chunks-flat k (matrix us) (zeros (length b - length (flat (matrix us)))) rows
 
     pub distinct-found : {r : ℕ} {out ps : List ℕ} → Gathered (chunks c k ms) d r out q ps →
-        Placed (place.Found c r k) (length a) ns (length b) ms (length d) out (length q) ps (parse_masks (length a) (length b) w)
+        Placed (Ok (record { segments = c; masks = r; words = k })) (length a) ns (length b) ms (length d) out (length q) ps (parse_masks (length a) (length b) w)
     unfolding found_in masks_in placed_in
     distinct-found {r} {out} {ps} s =
         let ds : List (List ℕ) = distinct_of us in
@@ -127,13 +132,13 @@ module _ (w a b d q : List ℕ) (z : Cleared d q) {got : Masks} {ns ms : List �
         s.places ∙ ap₂ (λ (l : List (List ℕ)) (o : List ℕ). lay 0 (places_in (distinct [] l) l) o) front z.leaves
         ∙ lay-zeros (length q) (places_of us) fit in
         let size : c ≡ length (starts (cuts_of us)) = of.masks ∙ length_masks us (starts (cuts_of us)) in
-        let says : told (place.Found c r k) ≡ found_in (parsed us) =
+        let says : told (Ok (record { segments = c; masks = r; words = k })) ≡ found_in (parsed us) =
         ap₂ {C = Said} (λ x l. ok (x ∷ l)) size (ap₂ {C = List ℕ} (λ x y. x ∷ y ∷ []) (s.masks.count ∙ ap length is) of.words) in
         rw of.is
         (record { says = says; low_high = g.low_high ∙ ap (segments_in (length a)) of.is; each = of.leaves; once = left; leaves = stands })
 
-  pub distinct-refused : {r : Refusal} → got ≡ Refused r →
-      Placed (place.Refused r) (length a) ns (length b) ms (length d) d (length q) q (parse_masks (length a) (length b) w)
+  pub distinct-refused : {r : Refusal} → got ≡ Err r →
+      Placed (Err r) (length a) ns (length b) ms (length d) d (length q) q (parse_masks (length a) (length b) w)
   distinct-refused {r} i =
       no_masks (length a) (length b) (length d) (length q) (parse_masks (length a) (length b) w) r ns ms d q (ap said (sym i) ∙ g.says)
       g.low_high g.leaves z.once z.leaves
@@ -189,14 +194,14 @@ module _ (e f : List ℕ) {d q : List ℕ} (z : Zeroed e d f q) where
 
     module _ (w a b : List ℕ) where
       pub none-room : {ns ms : List ℕ} → t ≡ true → Zeroed b ms a ns →
-          Placed (place.Refused (refusal_at ROOM 0)) (length a) ns (length b) ms (length e) d (length f) q
+          Placed (Err (refusal_at ROOM 0)) (length a) ns (length b) ms (length e) d (length f) q
           (parse_places (length a) (length b) (length e) (length f) w)
       unfolding parse_places parse_distinct found_in segments_in masks_in placed_in
       none-room h s =
           rw (room-true (ltb (length e) 8192) (ltb (length f) 2048) (parse_masks (length a) (length b) w) (test ∙ h))
           (record { says = refl; low_high = s.numbers; each = s.words; once = z.words; leaves = z.numbers })
 
-      pub placed : {got : Places} {ns ms out ps : List ℕ} → t ≡ false →
+      pub placed : {got : Result Places Refusal} {ns ms out ps : List ℕ} → t ≡ false →
           Placed got (length a) ns (length b) ms (length d) out (length q) ps (parse_masks (length a) (length b) w) →
           Placed got (length a) ns (length b) ms (length e) out (length f) ps (parse_places (length a) (length b) (length e) (length f) w)
       unfolding parse_places parse_distinct
@@ -213,13 +218,13 @@ roomy_places s n d w = refl
 
 -- `told` takes no two answers to one: what it says gives the answer back
 
-abbrev back : Said → Places
-back (ok l) = place.Found (get_or l 0 0) (get_or l 1 0) (get_or l 2 0)
-back (no_by r) = place.Refused r
+abbrev back : Said → Result Places Refusal
+back (ok l) = Ok (record { segments = get_or l 0 0; masks = get_or l 1 0; words = get_or l 2 0 })
+back (no_by r) = Err r
 
-back-told : (x : Places) → back (told x) ≡ x
-back-told (place.Found segments masks words) = refl
-back-told (place.Refused r) = refl
+back-told : (x : Result Places Refusal) → back (told x) ≡ x
+back-told (Ok f) = refl
+back-told (Err r) = refl
 
-pub told_one : (x y : Places) → told x ≡ told y → x ≡ y
+pub told_one : (x y : Result Places Refusal) → told x ≡ told y → x ≡ y
 told_one x y e = sym (back-told x) ∙ ap back e ∙ back-told y

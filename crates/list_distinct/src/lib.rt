@@ -15,15 +15,12 @@ use refusal::{NONE, ROOM, Refusal};
 // A place for each of the most segments that a list may have, and one to spare.
 const PLACES: usize = 2048;
 
-// How many segments, how many distinct masks, and of how many words each, or why there are none.
+// How many segments, how many distinct masks, and of how many words each.
 #[derive(Clone, Copy)]
-pub enum Places {
-    Found {
-        segments: usize,
-        masks: usize,
-        words: usize,
-    },
-    Refused(Refusal),
+pub struct Places {
+    pub segments: usize,
+    pub masks: usize,
+    pub words: usize,
 }
 
 // Is the mask at `at` empty?
@@ -197,26 +194,19 @@ fn fill_places(
     masks: &mut [u64],
     out: &mut [u64],
     places: &mut [u32],
-) -> Places
+) -> Result<Places, Refusal>
     requires { Cleared out.old places.old }
     ensures { Placed result (length segments.old) segments.new (length masks.old) masks.new
         (length out.old) out.new (length places.old) places.new
         (parse_masks (length segments.old) (length masks.old) list.now) }
 {
-    match list_masks::segment_mask_matrix(list, segments, masks) {
-        Masks::Count {
-            masks: count,
-            words,
-        } => {
-            let d = put_distinct(masks, count, words, out, places);
-            Places::Found {
-                segments: count,
-                masks: d,
-                words,
-            }
-        }
-        Masks::Refused(r) => Places::Refused(r),
-    }
+    let matrix = list_masks::segment_mask_matrix(list, segments, masks)?;
+    let d = put_distinct(masks, matrix.masks, matrix.words, out, places);
+    Ok(Places {
+        segments: matrix.masks,
+        masks: d,
+        words: matrix.words,
+    })
 }
 
 // The segments of a list, the mask of each, the distinct ones of those that are not empty, in order of first segment, and for each segment
@@ -228,7 +218,7 @@ pub fn place_masks(
     masks: &mut [u64],
     out: &mut [u64],
     places: &mut [u32],
-) -> Places
+) -> Result<Places, Refusal>
     ensures { Placed result (length segments.old) segments.new (length masks.old) masks.new
         (length out.old) out.new (length places.old) places.new
         (parse_places (length segments.old) (length masks.old) (length out.old) (length places.old)
@@ -237,7 +227,7 @@ pub fn place_masks(
     clear_both(out, places);
     if too_short(out.len(), places.len()) {
         clear_both(masks, segments);
-        return Places::Refused(Refusal {
+        return Err(Refusal {
             number: ROOM,
             item: 0,
             place: 0,
@@ -253,18 +243,15 @@ pub fn distinct_masks(
     segments: &mut [u32],
     masks: &mut [u64],
     out: &mut [u64],
-) -> Masks
+) -> Result<Masks, Refusal>
     ensures { Distinct result (length segments.old) segments.new (length masks.old) masks.new
         (length out.old) out.new
         (parse_distinct (length segments.old) (length masks.old) (length out.old) list.now) }
 {
     let mut places = [0u32; 2048];
-    match place_masks(list, segments, masks, out, &mut places) {
-        Places::Found {
-            segments: count,
-            masks: d,
-            words,
-        } => Masks::Count { masks: d, words },
-        Places::Refused(r) => Masks::Refused(r),
-    }
+    let found = place_masks(list, segments, masks, out, &mut places)?;
+    Ok(Masks {
+        masks: found.masks,
+        words: found.words,
+    })
 }

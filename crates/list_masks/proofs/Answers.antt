@@ -10,26 +10,23 @@ use borrow.Author.Tests.{lt-ltb, le-ltb}
 use mir.Val.{Fits}
 use mir.Syntax.{w64}
 use lib.ListN.{length, get_or, length-replicate}
+use Rattle.std.specs.Prelude.{Result, Ok, Err}
 use Rattle.refusal.specs.declared.Refusal.{Refusal}
 use Rattle.refusal.specs.Said.{Said, ok, refusal_at, no_by, ROOM}
 use Rattle.buffer.specs.Over.{lay, Put, zeros, padded}
 use Rattle.buffer.proofs.Overs.{lay-zeros}
 use Rattle.list_transitions.specs.declared.Transitions.{Transitions}
-use Rattle.list_transitions.specs.declared.Transitions.TheVariants as told
 use Rattle.list_transitions.specs.Transition.{Transition}
 use Rattle.list_transitions.specs.Read.{Parsed, parsed, refused, parse_from, parse, is_parsed, accepted}
 use Rattle.list_transitions.specs.Read as list
 use Rattle.list_transitions.specs.Walk.{trans_from, Fit}
 use Rattle.list_transitions.proofs.Order.{le_cases}
 use Rattle.list_transitions.proofs.Accepted.{Listed, listed, ended, walk}
-use Rattle.list_segments.specs.declared.Segments.{Segments}
-use Rattle.list_segments.specs.declared.Segments.TheVariants as found
 use Rattle.list_segments.specs.Segments.{cuts_of, starts, starts_from, segments, segments_from}
 use Rattle.list_segments.specs.Answer.{parse_for, segments_in}
 use Rattle.list_segments.specs.Answer as seg
 use Rattle.list_segments.proofs.Answers.{length-padded, length-starts, few_segments}
 use Rattle.list_masks.specs.declared.Masks.{Masks}
-use Rattle.list_masks.specs.declared.Masks.TheVariants.{Count, Refused}
 use Rattle.list_masks.specs.Masks.{words_for, masks_at, matrix, flat}
 use Rattle.list_masks.specs.Walk.{lows}
 use Rattle.list_masks.specs.Answer.{said, parse_masks, counted, masks_in, Matrix, Ready}
@@ -37,12 +34,12 @@ use Rattle.list_masks.proofs.Packs.{length_masks, length-matrix}
 
 -- How many transitions a list has: no more than 256
 
-pub count_read : (x : Parsed) {got : Transitions} {c k : ℕ} → list.said got ≡ list.counted x → got ≡ told.Read c k → c ≡ length (accepted x)
+pub count_read : (x : Parsed) {got : Result Transitions Refusal} {t : Transitions} → list.said got ≡ list.counted x → got ≡ Ok t → t.count ≡ length (accepted x)
 unfolding list.counted accepted
-count_read (parsed ts) {got} {c} {k} g e = let h : list.said (told.Read c k) ≡ list.counted (parsed ts) = ap list.said (sym e) ∙ g in cc
+count_read (parsed ts) {got} {t} g e = let h : list.said (Ok t) ≡ list.counted (parsed ts) = ap list.said (sym e) ∙ g in cc
 count_read (refused n p) g e = let z : ◌≡◌ {A = ℕ} 0 1 = cc in absurd (omega arith)
 
-pub count-refused : (x : Parsed) {got : Transitions} {r : Refusal} → list.said got ≡ list.counted x → got ≡ told.Refused r → 0 ≡ length (accepted x)
+pub count-refused : (x : Parsed) {got : Result Transitions Refusal} {r : Refusal} → list.said got ≡ list.counted x → got ≡ Err r → 0 ≡ length (accepted x)
 unfolding list.counted accepted
 count-refused (parsed ts) g e = let z : ◌≡◌ {A = ℕ} 0 1 = cc in absurd (omega arith)
 count-refused (refused n p) g e = refl
@@ -86,7 +83,7 @@ lows_in n (refused k p) h = let z : ◌≡◌ {A = ℕ} 0 1 = cc in absurd (omeg
 
 is_matrix : (s n c k : ℕ) (x : Parsed) (ns out : List ℕ) → is_parsed x ≡ true → c ≡ length (starts (cuts_of (accepted x))) →
     k ≡ length (accepted x) →
-    ns ≡ segments_in s x → out ≡ padded n (flat (matrix (accepted x))) → Matrix (Count c ((k + 63) / 64)) s ns n out x
+    ns ≡ segments_in s x → out ≡ padded n (flat (matrix (accepted x))) → Matrix (Ok (record { masks = c; words = (k + 63) / 64 })) s ns n out x
 unfolding is_parsed accepted counted masks_in
 is_matrix s n c k (parsed ts) ns out h a b l o =
     record {
@@ -136,7 +133,7 @@ module _ (w ns : List ℕ) (count : ℕ) (d : List ℕ) (r : Ready w ns count d)
   fill_fits = omega (arith, few)
 
   pub fill_done : {k : ℕ} {out : List ℕ} → Put (flat (masks_at (trans_from w n 0) (lows ns count 0))) 0 d k out →
-      Matrix (Count count ((n + 63) / 64)) (length ns) ns (length d) out (parse w)
+      Matrix (Ok (record { masks = count; words = (n + 63) / 64 })) (length ns) ns (length d) out (parse w)
   fill_done p =
       is_matrix (length ns) (length d) count n (parse w) ns _ r.good r.each e r.points
       (p.is ∙ ap₂ (λ (a b : List ℕ). lay 0 a b) written r.empty ∙ lay-zeros (length d) (flat (matrix ts)) fits)
@@ -159,21 +156,21 @@ pub short : (n : ℕ) (w : List ℕ) → n < 4096 → parse_for n w ≡ refused 
 unfolding parse_for
 short n w h = rw (lt-ltb n 4096 h)
 
-some : (x : Parsed) {k : ℕ} → seg.said (found.Count k) ≡ seg.counted x → (is_parsed x ≡ true) × (k ≡ length (starts (cuts_of (accepted x))))
+some : (x : Parsed) {k : ℕ} → seg.said (Ok k) ≡ seg.counted x → (is_parsed x ≡ true) × (k ≡ length (starts (cuts_of (accepted x))))
 unfolding seg.counted is_parsed accepted
 some (parsed ts) e = (refl, cc)
 some (refused n p) e = let z : ◌≡◌ {A = ℕ} 0 1 = cc in absurd (omega arith)
 
-some_of : (n : ℕ) (w : List ℕ) {k : ℕ} → seg.said (found.Count k) ≡ seg.counted (parse_for n w) → Some n w k
+some_of : (n : ℕ) (w : List ℕ) {k : ℕ} → seg.said (Ok k) ≡ seg.counted (parse_for n w) → Some n w k
 unfolding seg.counted
 some_of n w {k} e =
     le_cases 4096 n
     (λ h. let s = some (parse w) (e ∙ ap seg.counted (roomy n w h)) in record { good = s.0; size = s.1; room = h; is = roomy n w h })
     (λ h. let f = e ∙ ap seg.counted (short n w h) in let z : ◌≡◌ {A = ℕ} 0 1 = cc in absurd (omega arith))
 
-none_of : (s n : ℕ) (x : Parsed) (r : Refusal) (ns d : List ℕ) → seg.said (found.Refused r) ≡ seg.counted x → ns ≡ segments_in s x →
+none_of : (s n : ℕ) (x : Parsed) (r : Refusal) (ns d : List ℕ) → seg.said (Err r) ≡ seg.counted x → ns ≡ segments_in s x →
     d ≡ zeros n →
-    Matrix (Refused r) s ns n d x
+    Matrix (Err r) s ns n d x
 unfolding seg.counted counted masks_in
 none_of s n (parsed ts) r ns d e l z = let f : ◌≡◌ {A = ℕ} 0 1 = cc in absurd (omega arith)
 none_of s n (refused k p) r ns d e l z = record { says = e; low_high = l; leaves = z }
@@ -193,16 +190,16 @@ module _ (w a b : List ℕ) {d : List ℕ} (z : d ≡ zeros (length b)) where
   size = ap length z ∙ length-replicate (length b) 0
 
   pub no_room : {ns : List ℕ} → length d < 8192 → ns ≡ zeros (length a) →
-      Matrix (Refused (refusal_at ROOM 0)) (length a) ns (length b) d (parse_masks (length a) (length b) w)
+      Matrix (Err (refusal_at ROOM 0)) (length a) ns (length b) d (parse_masks (length a) (length b) w)
   unfolding parse_masks counted segments_in masks_in
   no_room l s = let h : length b < 8192 = omega (arith, size) in rw (lt-ltb (length b) 8192 h) (record { says = refl; low_high = s; leaves = z })
 
-  module _ (l : 8192 ≤ length d) {got : Segments} {ns : List ℕ} (h : seg.Writes got (length a) ns (parse_for (length a) w)) where
+  module _ (l : 8192 ≤ length d) {got : Result ℕ Refusal} {ns : List ℕ} (h : seg.Writes got (length a) ns (parse_for (length a) w)) where
     asked : parse_masks (length a) (length b) w ≡ parse_for (length a) w
     unfolding parse_masks
     asked = let g : 8192 ≤ length b = omega (arith, size) in rw (le-ltb (length b) 8192 g)
 
-    module _ {k : ℕ} (e : got ≡ found.Count k) where
+    module _ {k : ℕ} (e : got ≡ Ok k) where
       is : Some (length a) w k
       is = some_of (length a) w (ap seg.said (sym e) ∙ h.says)
 
@@ -220,24 +217,24 @@ module _ (w a b : List ℕ) {d : List ℕ} (z : d ≡ zeros (length b)) where
             room = l;
           }
 
-      pub matrix-found : {r : Masks} {out : List ℕ} → Matrix r (length ns) ns (length d) out (parse w) →
+      pub matrix-found : {r : Result Masks Refusal} {out : List ℕ} → Matrix r (length ns) ns (length d) out (parse w) →
           Matrix r (length a) ns (length b) out (parse_masks (length a) (length b) w)
       matrix-found m = rw (asked, is.is, ← same, ← size) m
 
-    pub matrix-refused : {r : Refusal} → got ≡ found.Refused r → Matrix (Refused r) (length a) ns (length b) d (parse_masks (length a) (length b) w)
+    pub matrix-refused : {r : Refusal} → got ≡ Err r → Matrix (Err r) (length a) ns (length b) d (parse_masks (length a) (length b) w)
     matrix-refused {r} e = rw asked (none_of (length a) (length b) (parse_for (length a) w) r ns d (ap seg.said (sym e) ∙ h.says) h.leaves z)
 
 pub ruleset answering = (rules, length-replicate, no_room, ready, matrix-found, matrix-refused)
 
 -- `said` takes no two answers to one: what it says gives the answer back
 
-abbrev back : Said → Masks
-back (ok l) = Count (get_or l 0 0) (get_or l 1 0)
-back (no_by r) = Refused r
+abbrev back : Said → Result Masks Refusal
+back (ok l) = Ok (record { masks = get_or l 0 0; words = get_or l 1 0 })
+back (no_by r) = Err r
 
-back-said : (x : Masks) → back (said x) ≡ x
-back-said (Count masks words) = refl
-back-said (Refused r) = refl
+back-said : (x : Result Masks Refusal) → back (said x) ≡ x
+back-said (Ok m) = refl
+back-said (Err r) = refl
 
-pub said_one : (x y : Masks) → said x ≡ said y → x ≡ y
+pub said_one : (x y : Result Masks Refusal) → said x ≡ said y → x ≡ y
 said_one x y e = sym (back-said x) ∙ ap back e ∙ back-said y

@@ -11,28 +11,29 @@ use mir.Val.{Fits}
 use mir.Syntax.{w64}
 use Rattle.buffer.specs.Over.{over, lay, Put, zeros}
 use Rattle.list_transitions.specs.Transition.{Transition, origin, holds, hold_at}
-use Rattle.list_transitions.specs.Bytes.{size_at, trans_of}
 use Rattle.list_transitions.specs.Walk.{trans_at, next_at, trans_from, Fit}
 use Rattle.list_masks.specs.Masks.{bit, word_of, pack, words_for, mask_of, masks_at, flat}
 use Rattle.list_masks.specs.Walk.{next_of, by_low, Covers, lows, column, stacked, Columned}
 use Rattle.list_masks.proofs.Packs.{length_hold, word_lt, length-matrix}
 use Rattle.list_masks.proofs.Holds.{tells_none, held_is}
-use Rattle.list_masks.proofs.Words.{first, length_trans, word_value, word-shape, word_order}
+use Rattle.list_masks.proofs.Words.{length_trans}
 use Rattle.list_masks.proofs.Puts.{fit_front, fit_rest}
 
 -- The loop over the words of one column
 
-pub record Filling (t : Transition) (ns : List ℕ) (count : ℕ) (old : List ℕ) (left at k : ℕ) (out : List ℕ) : Type 0 where
+pub record Filling (t : Transition) (ns : List ℕ) (count : ℕ) (old : List ℕ) (k : ℕ) (out : List ℕ) : Type 0 where
   pub room : count ≤ length out
   pub small : (i : ℕ) → k ≤ i → i < count → get_or out i 0 < 2 ^ 63
   pub size : length out ≡ length old
-  pub is : take k out ++ column t (lows ns left at) (drop k out) ≡ column t (lows ns count 0) old
+  pub is : take k out ++ column t (lows ns (count - k) (2 * k)) (drop k out) ≡ column t (lows ns count 0) old
 
-pub fill_begin : (t : Transition) (ns : List ℕ) (count : ℕ) (old : List ℕ) → Columned count old → Filling t ns count old count 0 0 old
-fill_begin t ns count old c = record { room = c.room; small = λ i _ l. c.small i l; size = refl; is = refl }
+pub fill_begin : (t : Transition) (ns : List ℕ) (count : ℕ) (old : List ℕ) → Columned count old → Filling t ns count old 0 old
+fill_begin t ns count old c =
+    let e : count - 0 ≡ count = omega arith in
+    record { room = c.room; small = λ i _ l. c.small i l; size = refl; is = rw e refl }
 
-module _ (t : Transition) (ns : List ℕ) (count : ℕ) (old : List ℕ) (left at k : ℕ) (out : List ℕ) (f : Filling t ns count old left at k out) where
-  module _ (n : 0 < left) (a : k + left ≡ count) where
+module _ (t : Transition) (ns : List ℕ) (count : ℕ) (old : List ℕ) (k : ℕ) (out : List ℕ) (f : Filling t ns count old k out) where
+  module _ (n : k < count) where
     pub fill_here : k < length out
     fill_here = omega (arith, f.room)
 
@@ -43,21 +44,26 @@ module _ (t : Transition) (ns : List ℕ) (count : ℕ) (old : List ℕ) (left a
     fill_sum l = omega (arith, f.small k (omega arith) (omega arith))
 
     abbrev rest : List ℕ
-    rest = column t (lows ns (left - 1) (at + 2)) (drop (k + 1) out)
+    rest = column t (lows ns (count - (k + 1)) (2 * (k + 1))) (drop (k + 1) out)
 
-    open_column : column t (lows ns left at) (drop k out) ≡ (bit (holds t (get_or ns at 0)) + 2 * get_or out k 0) ∷ rest
+    open_column : column t (lows ns (count - k) (2 * k)) (drop k out) ≡ (bit (holds t (get_or ns (2 * k) 0)) + 2 * get_or out k 0) ∷ rest
     unfolding column lows
     open_column =
-        let e : left ≡ suc (left - 1) = omega arith in
+        let e : count - k ≡ suc (count - (k + 1)) = omega arith in
+        let g : 2 * k + 2 ≡ 2 * (k + 1) = omega arith in
         let one : suc k ≡ k + 1 = omega arith in
         let d : drop k out ≡ get_or out k 0 ∷ drop (k + 1) out = drop-cons out k 0 fill_here ∙ ap (λ (j : ℕ). get_or out k 0 ∷ drop j out) one in
-        ap₂ (λ (j : ℕ) (l : List ℕ). column t (lows ns j at) l) e d
+        ap₂ (λ (j : ℕ) (l : List ℕ). column t (lows ns j (2 * k)) l) e d
+        ∙ ap
+        (λ (i : ℕ). (bit (holds t (get_or ns (2 * k) 0)) + 2 * get_or out k 0) ∷ column t (lows ns (count - (k + 1)) i) (drop (k + 1) out))
+        g
 
-    pub fill_next : {tag q floor low high b : ℕ} → q ≡ get_or ns at 0 + origin → Covers t tag q floor low high → b ≡ bit (by_low tag low q) →
-        Filling t ns count old (left - 1) (at + 2) (k + 1) (set out k (b + 2 * get_or out k 0))
+    pub fill_next : {tag q floor low high b : ℕ} → q ≡ get_or ns (2 * k) 0 + origin → Covers t tag q floor low high → b ≡ bit (by_low tag low q) →
+        Filling t ns count old (k + 1) (set out k (b + 2 * get_or out k 0))
     fill_next {tag} {b = b} i c e =
         let x : ℕ = b + 2 * get_or out k 0 in
-        let same : x ≡ bit (holds t (get_or ns at 0)) + 2 * get_or out k 0 = ap (λ (j : ℕ). j + 2 * get_or out k 0) (held_is t tag (get_or ns at 0) i c e) in
+        let same : x ≡ bit (holds t (get_or ns (2 * k) 0)) + 2 * get_or out k 0 =
+        ap (λ (j : ℕ). j + 2 * get_or out k 0) (held_is t tag (get_or ns (2 * k) 0) i c e) in
         let one : k + 1 ≡ suc k = omega arith in
         let front : take (k + 1) (set out k x) ≡ take k out ++ (x ∷ []) = ap (λ (j : ℕ). take j (set out k x)) one ∙ take-suc-set out k x fill_here in
         record {
@@ -69,22 +75,11 @@ module _ (t : Transition) (ns : List ℕ) (count : ℕ) (old : List ℕ) (left a
               ∙ f.is;
         }
 
-  pub fill_end : left ≤ 0 → out ≡ column t (lows ns count 0) old
+  pub fill_end : count ≤ k → out ≡ column t (lows ns count 0) old
   unfolding column lows
-  fill_end z = let e : left ≡ 0 = omega arith in sym (take-append-drop k out) ∙ (rw e at f.is)
+  fill_end z = let e : count - k ≡ 0 = omega arith in sym (take-append-drop k out) ∙ (rw e at f.is)
 
 pub ruleset columns = (rules, tells_none, fill_begin, fill_here, fill_double, fill_sum, fill_next, fill_end)
-
--- One record
-
-pub some : ◌≡◌ {A = ℕ} 1 0 → ⊥
-some z = omega arith
-
-pub record_done : (w : List ℕ) (at : ℕ) (ns old : List ℕ) (count : ℕ) {k : ℕ} {new : List ℕ} → k ≡ size_at w (at + 1) →
-    new ≡ column (trans_of w (get_or w at 0) k (at + 3)) (lows ns count 0) old → new ≡ column (trans_at w at) (lows ns count 0) old
-record_done w at ns old count e h = rw e at h
-
-pub ruleset records = (rules, some, word_value, word-shape, word_order, record_done)
 
 -- The columns of all records, over zeros, are the masks of one word
 
@@ -137,6 +132,9 @@ module _ (ts : List Transition) where
 
 -- The loop over the records, from the last
 
+one : ◌≡◌ {A = ℕ} 1 0 → ⊥
+one z = omega arith
+
 next_snoc : (w : List ℕ) (i at : ℕ) → next_of w (suc i) at ≡ next_at w (next_of w i at)
 unfolding next_of
 next_snoc w zero at = refl
@@ -178,9 +176,6 @@ module _ (w : List ℕ) (n : ℕ) (ns : List ℕ) (count : ℕ) (old : List ℕ)
         (fit_front w 1 (n - i) (n - (i - 1)) (next_of w (i - 1) 0) (omega (arith, c.more))
         (fit_rest w (i - 1) (n - (i - 1)) n 0 (omega (arith, c.more)) s))
 
-    pub column-there : Fit w n 0 → at + 3 ≤ length w
-    column-there s = omega (arith, (first w 1 at some (column_fit s)).there)
-
     pub column-room : Columned count out
     column-room =
         let few : length ts ≤ 63 = omega (arith, length_trans w (n - i) (next_of w i 0), c.few) in
@@ -190,9 +185,10 @@ module _ (w : List ℕ) (n : ℕ) (ns : List ℕ) (count : ℕ) (old : List ℕ)
           small = λ k l. rw is (stacked_small ts few ps (length old) fits k (omega (arith, length-lows ns count 0)));
         }
 
-    pub column_turn : {new : List ℕ} → new ≡ column (trans_at w at) (lows ns count 0) out → Columning w n ns count old (i - 1) new
+    pub column_turn : {t : Transition} {new : List ℕ} → t ≡ trans_at w at → new ≡ column t (lows ns count 0) out → Columning w n ns count old (i - 1) new
     unfolding trans_from stacked
-    column_turn {new} g =
+    column_turn {t} {new} u g' =
+        let g : new ≡ column (trans_at w at) (lows ns count 0) out = rw u at g' in
         let a : n - (i - 1) ≡ suc (n - i) = omega (arith, c.more) in
         let b : i ≡ suc (i - 1) = omega arith in
         let d : next_of w i 0 ≡ next_at w at = ap (λ (j : ℕ). next_of w j 0) b ∙ next_snoc w (i - 1) 0 ∙ ap (next_at w) (sym e) in
@@ -218,7 +214,7 @@ module _ (w : List ℕ) (n : ℕ) (ns : List ℕ) (count : ℕ) (old : List ℕ)
         is = is ∙ (rw c.empty (stacked_masks (trans_from w n 0) some few ps (length old) fits));
       }
 
-pub ruleset columning = (rules, column-start, column-front, column_fit, column-there, column-room, column_turn, column_done)
+pub ruleset columning = (rules, column-start, column-front, column_fit, column-room, column_turn, column_done)
 
 -- There is room for a word for each segment
 

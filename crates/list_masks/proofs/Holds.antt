@@ -8,13 +8,13 @@ use native.Mathlib.Omega.{arith}
 use borrow.Author.Rules.{rules}
 use borrow.Author.Tests.{le-leb, lt-leb, le-ltb, lt-ltb, eqb-true, eqb-false, eq-eqb, ne_eqb}
 use lib.Dec.{eqb, leb, ltb}
+use mir.Val.{bool_byte}
 use Rattle.refusal.specs.Lists.{pick}
 use Rattle.list_transitions.specs.Transition.{Transition, atom, pair_has, any_has, holds, origin, orderly, in_order}
 use Rattle.list_transitions.specs.Bytes.{number_at, pairs_at, shape_of, trans_of}
 use Rattle.list_transitions.proofs.Order.{le_cases, both}
 use Rattle.list_transitions.proofs.Holds.{Ordered, ordered}
-use Rattle.list_transitions.proofs.Pairs.{pairs_turn, pairs_done}
-use Rattle.list_transitions.proofs.Tags.{shape_2, value_1, trans_1, trans_2, trans_3, trans_4, trans_5}
+use Rattle.list_masks.proofs.Tags.{pairs_turn, pairs_done, shape_2, trans_1, trans_2, trans_3, trans_4, trans_5}
 use Rattle.list_masks.specs.Masks.{bit}
 use Rattle.list_masks.specs.Walk.{low_at, high_at, Rises, Passed, Reach, Floor, last, Spans, by_low, Tells, Covers}
 
@@ -288,10 +288,11 @@ module _ (w : List ℕ) (tag size p : ℕ) where
           to = g.to;
         }
 
-pub value_pairs : (p size : ℕ) {m : ℕ} → p + size ≤ m → p + 8 * (size / 8) ≤ m
-value_pairs p size l = omega arith
+pub atom_size : (tag : ℕ) {size : ℕ} → shape_of tag size ≡ true → tag ≡ 1 → 4 ≤ size
+unfolding shape_of
+atom_size tag {size} s h = let l : size ≡ 4 = eqb-true size 4 (rw h at s) in omega arith
 
-pub ruleset finding = (rules, value_1, value_pairs, order_rises, find_atom, find_pairs)
+pub ruleset finding = (rules, order_rises, find_atom, find_pairs)
 
 module _ (t : Transition) (tag : ℕ) where
   pub tells_none : Tells t tag 1 0 0
@@ -309,13 +310,21 @@ pub ruleset telling = (rules, still_covers, held_is)
 
 -- The test by the tag
 
-module _ (tag low q : ℕ) where
-  pub by_other : {r : ℕ} → 4 ≤ tag → r ≡ bit (ltb q low) → r ≡ bit (by_low tag low q)
-  unfolding by_low
-  by_other h e = rw (le-leb 4 tag h) e
+byte_bit : (b : Bool) → bool_byte b ≡ bit b
+byte_bit true = refl
+byte_bit false = refl
 
-  pub by_same : {r : ℕ} → tag < 4 → r ≡ bit (leb low q) → r ≡ bit (by_low tag low q)
+bit_small : (b : Bool) → bit b ≤ 1
+bit_small true = omega arith
+bit_small false = omega arith
+
+module _ (tag low q : ℕ) {r : ℕ} where
+  pub by_other : 4 ≤ tag → r ≡ bool_byte (ltb q low) → (r ≡ bit (by_low tag low q)) × (r ≤ 1)
   unfolding by_low
-  by_same h e = rw (lt-leb 4 tag h) e
+  by_other h e = rw (le-leb 4 tag h, e, byte_bit (ltb q low)) (refl, bit_small (ltb q low))
+
+  pub by_same : tag < 4 → r ≡ bool_byte (leb low q) → (r ≡ bit (by_low tag low q)) × (r ≤ 1)
+  unfolding by_low
+  by_same h e = rw (lt-leb 4 tag h, e, byte_bit (leb low q)) (refl, bit_small (leb low q))
 
 pub ruleset tests = (rules, by_other, by_same)

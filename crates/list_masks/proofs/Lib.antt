@@ -1,3 +1,4 @@
+pub mod Tags
 pub mod Packs
 pub mod Holds
 pub mod Words

@@ -17,14 +17,14 @@ use Rattle.list_masks.proofs.Words.{length_trans}
 -- The first records of so many, and those behind
 
 module _ (w : List ℕ) (point : ℕ) where
-  take_hold : (k m n at : ℕ) → m ≡ min k n → take k (hold_at (trans_from w n at) point) ≡ hold_at (trans_from w m at) point
+  take_hold : (k m n at : ℕ) → m ≡ min n k → take k (hold_at (trans_from w n at) point) ≡ hold_at (trans_from w m at) point
   unfolding hold_at trans_from
   take_hold zero m n at e = let z : m ≡ 0 = omega arith in rw z
   take_hold (suc k) m zero at e = let z : m ≡ 0 = omega arith in rw z
   take_hold (suc k) zero (suc n) at e = absurd (omega arith)
   take_hold (suc k) (suc m) (suc n) at e = ap (λ (l : List Bool). holds (trans_at w at) point ∷ l) (take_hold k m n (next_at w at) (omega arith))
 
-  drop_hold : (k m n at : ℕ) → m ≡ min k n → drop k (hold_at (trans_from w n at) point) ≡ hold_at (trans_from w (n - m) (next_of w m at)) point
+  drop_hold : (k m n at : ℕ) → m ≡ min n k → drop k (hold_at (trans_from w n at) point) ≡ hold_at (trans_from w (n - m) (next_of w m at)) point
   unfolding hold_at trans_from next_of
   drop_hold zero m n at e = let z : m ≡ 0 = omega arith in let y : n - 0 ≡ n = omega arith in rw (z, y)
   drop_hold (suc k) m zero at e = let y : 0 - m ≡ 0 = omega arith in rw y
@@ -46,7 +46,7 @@ module _ (w : List ℕ) where
 
 -- The loop over the words of a mask, 64 records each
 
-module _ (w : List ℕ) (left at point : ℕ) {few : ℕ} (n : 0 < left) (f : few ≡ min 64 left) where
+module _ (w : List ℕ) (left at point : ℕ) {few : ℕ} (n : 0 < left) (f : few ≡ min left 64) where
   parts : left ≡ few + (left - few)
   parts = omega arith
 

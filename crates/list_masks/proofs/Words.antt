@@ -1,17 +1,18 @@
 -- The laws of a mask word, and of the walk over records. w is the list's bytes, `at` a record's offset, n how many records stand from there
 -- on. Assumes nothing.
-use mathlib.Core.Path.{◌≡◌, refl, sym, ap}
+use mathlib.Core.Path.{◌≡◌, refl, sym, ap, ◌∙◌}
 use mathlib.Core.List.{List}
 use mathlib.Core.Bool.{true}
 use Prim.Native.Nat.{ℕ, zero, suc, ◌+◌, ◌*◌, ◌-◌, ◌^◌, ◌<◌, ◌≤◌}
 use native.Mathlib.Omega.{arith}
 use borrow.Author.Rules.{rules}
-use lib.ListN.{length, get_or}
+use lib.ListN.{length, get_or, take, drop}
 use mir.Val.{Fits}
 use mir.Syntax.{w64}
-use Rattle.list_transitions.specs.Transition.{holds, hold_at, in_order}
+use Rattle.list_transitions.specs.Transition.{Transition, holds, hold_at, in_order}
 use Rattle.list_transitions.specs.Bytes.{size_at, shape_of, trans_of}
 use Rattle.list_transitions.specs.Walk.{trans_at, next_at, trans_from, Fit}
+use Rattle.list_transitions.proofs.Values.{part-length, part-shape, part-trans}
 use Rattle.list_masks.specs.Masks.{bit, word_of}
 use Rattle.list_masks.specs.Walk.{next_of}
 use Rattle.list_masks.proofs.Packs.{word_lt}
@@ -58,20 +59,18 @@ module _ (w : List ℕ) (n at : ℕ) (s : Fit w n at) (z : n ≡ 0 → ⊥) wher
   pub word_here : at < length w
   word_here = omega (arith, (first w n at z s).there)
 
+  pub word_first : Fit w 1 at
+  unfolding Fit
+  word_first = let f = first w n at z s in (f.there, f.shape, f.order, tt)
+
   module _ {k : ℕ} (e : k ≡ size_at w (at + 1)) where
     pub word_value : at + 3 + k ≤ length w
     word_value = rw e (first w n at z s).there
 
-    pub word-shape : shape_of (get_or w at 0) k ≡ true
-    word-shape = rw e (first w n at z s).shape
-
-    pub word_order : in_order (trans_of w (get_or w at 0) k (at + 3)) ≡ true
-    word_order = rw e (first w n at z s).order
-
     pub word-rest : Fit w (n - 1) (at + 3 + k)
     word-rest = rw e (first w n at z s).rest
 
-    module _ (point : ℕ) {b more : ℕ} (f : n ≤ 64) (j : b ≡ bit (holds (trans_of w (get_or w at 0) k (at + 3)) point))
+    module _ (point : ℕ) {t : Transition} {b more : ℕ} (f : n ≤ 64) (u : t ≡ trans_at w at) (j : b ≡ bit (holds t point))
         (g : more ≡ word_of (hold_at (trans_from w (n - 1) (at + 3 + k)) point)) where
       small : more < 2 ^ 63
       small = rw g (word_lt (trans_from w (n - 1) (at + 3 + k)) point (omega (arith, length_trans w (n - 1) (at + 3 + k))))
@@ -83,9 +82,39 @@ module _ (w : List ℕ) (n at : ℕ) (s : Fit w n at) (z : n ≡ 0 → ⊥) wher
       word_sum l = omega (arith, small)
 
       pub word_is : b + 2 * more ≡ word_of (hold_at (trans_from w n at) point)
-      word_is = rw (j, g, e) (sym (word_turn w n at point z))
+      word_is = rw (j, u, g, e) (sym (word_turn w n at point z))
 
-pub ruleset words = (rules, word_none, word_size, word_here, word_value, word-shape, word_order, word-rest, word_double, word_sum, word_is)
+pub ruleset words = (rules, word_none, word_size, word_here, word_value, word-rest, word_first, word_double, word_sum, word_is)
+
+-- The record that stands at `at`
+
+module _ (w : List ℕ) (at : ℕ) (f : Fit w 1 at) {s : ℕ} (e : s ≡ size_at w (at + 1)) where
+  here : First w 1 at
+  here = first w 1 at (λ z. omega arith) f
+
+  pub record_there : at + 3 + s ≤ length w
+  record_there = rw e here.there
+
+  abbrev value : List ℕ
+  value = take (at + 3 + s - (at + 3)) (drop (at + 3) w)
+
+  shape : shape_of (get_or w at 0) s ≡ true
+  shape = rw e here.shape
+
+  pub record_size : length value ≡ size_at w (at + 1)
+  record_size = part-length w (at + 3) s _ record_there refl ∙ e
+
+  pub record_fits : shape_of (get_or w at 0) (length value) ≡ true
+  record_fits = part-shape w (at + 3) s _ record_there refl (get_or w at 0) ∙ shape
+
+  pub record_is : trans_of value (get_or w at 0) (length value) 0 ≡ trans_at w at
+  record_is =
+      ap (λ (k : ℕ). trans_of value (get_or w at 0) k 0) (part-length w (at + 3) s _ record_there refl)
+      ∙ part-trans w (at + 3) s _ record_there refl (get_or w at 0) shape
+      ∙ ap (λ (k : ℕ). trans_of w (get_or w at 0) k (at + 3)) e
+
+  pub record_order : in_order (trans_of value (get_or w at 0) (length value) 0) ≡ true
+  record_order = ap in_order record_is ∙ here.order
 
 -- The loop that passes records
 

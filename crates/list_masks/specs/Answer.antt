@@ -1,6 +1,7 @@
 -- What the calls for masks answer, and leave in the lent buffers. w is the list's bytes, x the list, s, n and d how many numbers the buffers
 -- for segments, masks and distinct masks have. Assumes nothing.
-use Rattle.std.specs.Prelude.{ℕ, ◌≤◌, ◌≡◌, List, [], ◌∷◌, true, length, ltb}
+use Rattle.std.specs.Prelude.{ℕ, ◌≤◌, ◌≡◌, List, [], ◌∷◌, true, length, ltb, Result, Ok, Err}
+use Rattle.refusal.specs.declared.Refusal.{Refusal}
 use Rattle.refusal.specs.Said.{Said, ok, no_by, no, ROOM}
 use Rattle.refusal.specs.Lists.{pick}
 use Rattle.buffer.specs.Over.{zeros, padded}
@@ -9,13 +10,12 @@ use Rattle.list_transitions.specs.Read.{Parsed, parsed, refused, parse, is_parse
 use Rattle.list_segments.specs.Segments.{cuts_of, starts}
 use Rattle.list_segments.specs.Answer.{parse_for, segments_in}
 use Rattle.list_masks.specs.declared.Masks.{Masks}
-use Rattle.list_masks.specs.declared.Masks.TheVariants.{Count, Refused}
 use Rattle.list_masks.specs.Masks.{words_for, matrix, flat, distinct_of}
 
 -- how many masks, and of how many words each, or a refusal
-abbrev pub said : Masks → Said
-said (Count masks words) = ok (masks ∷ words ∷ [])
-said (Refused r) = no_by r
+abbrev pub said : Result Masks Refusal → Said
+said (Ok m) = ok (m.masks ∷ m.words ∷ [])
+said (Err r) = no_by r
 
 -- "ROOM comes before the first: segments 4,096 numbers, masks 8,192 64-bit words, distinct masks the same"
 unfoldable pub parse_masks : ℕ → ℕ → List ℕ → Parsed
@@ -35,13 +35,13 @@ masks_in f n (parsed ts) = padded n (flat (f ts))
 masks_in f n (refused k p) = zeros n
 
 -- the answer says it, and the buffers hold it: the segments, and a mask for each ..
-pub record Matrix (r : Masks) (s : ℕ) (segments : List ℕ) (n : ℕ) (masks : List ℕ) (x : Parsed) : Type 0 where
+pub record Matrix (r : Result Masks Refusal) (s : ℕ) (segments : List ℕ) (n : ℕ) (masks : List ℕ) (x : Parsed) : Type 0 where
   pub says : said r ≡ counted matrix x
   pub low_high : segments ≡ segments_in s x
   pub leaves : masks ≡ masks_in matrix n x
 
 -- .. and the distinct ones too
-pub record Distinct (r : Masks) (s : ℕ) (segments : List ℕ) (n : ℕ) (masks : List ℕ) (d : ℕ) (distinct : List ℕ) (x : Parsed) : Type 0 where
+pub record Distinct (r : Result Masks Refusal) (s : ℕ) (segments : List ℕ) (n : ℕ) (masks : List ℕ) (d : ℕ) (distinct : List ℕ) (x : Parsed) : Type 0 where
   pub says : said r ≡ counted distinct_of x
   pub low_high : segments ≡ segments_in s x
   pub each : masks ≡ masks_in matrix n x

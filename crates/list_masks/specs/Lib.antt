@@ -1,3 +1,4 @@
 pub mod Masks
 pub mod Walk
+pub mod Record
 pub mod Answer

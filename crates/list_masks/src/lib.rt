@@ -2,6 +2,8 @@
 // length and hold any bytes.
 #![tactic(auto)]
 
+mod records;
+
 ghost use Rattle.std.specs.Prelude.{◌≡◌, true, ◌+◌, ◌*◌, ◌/◌, ◌≤◌, ◌<◌, min, length};
 ghost use Rattle.buffer.specs.Over.{Put, zeros};
 ghost use Rattle.list_transitions.specs.Transition.{origin, atom, holds, hold_at, in_order};
@@ -9,17 +11,23 @@ ghost use Rattle.list_transitions.specs.Bytes.{number_at, size_at, shape_of, tra
 ghost use Rattle.list_transitions.specs.Read.{parse, accepted};
 ghost use Rattle.list_transitions.specs.Walk.{trans_at, trans_from, Fit};
 ghost use Rattle.list_masks.specs.Masks.{bit, word_of, mask_of, masks_at, flat};
-ghost use Rattle.list_masks.specs.Walk.{next_of, Rises, Passed, Reach, Floor, last, Spans, by_low, Tells, Covers, lows, column, Columned};
+ghost use Rattle.list_masks.specs.Walk.{next_of, low_at, high_at, Rises, Passed, Reach, Floor, last, Spans, by_low, Tells, Covers, lows, column, Columned};
 ghost use Rattle.list_masks.specs.Answer.{parse_masks, Matrix, Ready};
+ghost use Rattle.list_masks.specs.Record.{transition_of};
 
-use list_segments::Segments;
-use list_transitions::{ORIGIN, Transitions};
+use list_transitions::ORIGIN;
+use records::{Record, high_at, low_at, number_at, record_at, size_at};
 use refusal::{ROOM, Refusal};
 
 // No point has a key above LAST; PAST is above it.
 const LAST: u64 = 8589934592;
 
 const PAST: u64 = 8589934593;
+
+// The tag of an atom; and the one from which on a record holds what its pairs do not.
+const ATOM: u8 = 1;
+
+const NOT_SET: u8 = 4;
 
 // Words of the most masks that a list may have, with some to spare.
 pub const WORDS: usize = 8192;
@@ -33,71 +41,45 @@ struct Span {
     high: u64,
 }
 
-// How many masks there are, and of how many words each, or why there are none.
+// How many masks there are, and of how many words each.
 #[derive(Clone, Copy)]
-pub enum Masks {
-    Count { masks: usize, words: usize },
-    Refused(Refusal),
-}
-
-fn wide(x: u8) -> u64
-    ensures { (result ≡ x) × (result < 256) }
-{
-    x as u64
-}
-
-fn size_at(list: &[u8], p: usize) -> usize
-    requires { p + 2 ≤ length list.now }
-    ensures { (result ≡ size_at list.now p) × (result < 65536) }
-{
-    let a = wide(list[p]);
-    let b = wide(list[p + 1]);
-    (a + 256 * b) as usize
-}
-
-// The key of the number whose four bytes start at p.
-fn number_at(list: &[u8], p: usize) -> u64
-    requires { p + 4 ≤ length list.now }
-    ensures { (result ≡ number_at list.now p) × (result < 4294967296) }
-{
-    let low = size_at(list, p);
-    let high = size_at(list, p + 2);
-    ((low + 65536 * high) as u64 + ORIGIN) % 4294967296
+pub struct Masks {
+    pub masks: usize,
+    pub words: usize,
 }
 
 fn key_of(point: u32) -> u64
     ensures { (result ≡ point + origin) × (result ≤ last) }
 {
-    (point as u64) + ORIGIN
+    u64::from(point) + ORIGIN
 }
 
-// How many of n ascending pairs from p surely end before the key q: as many as the hint says, if the last of these does, or none.
-fn seek_from(list: &[u8], p: usize, n: usize, q: u64, hint: usize) -> usize
-    requires bytes { p + 8 * n ≤ length list.now }
-    requires order { Rises list.now n p }
-    ensures { Passed list.now n p q result }
+// How many of the ascending pairs surely end before the key q: as many as the hint says, if the last of these does, or none.
+fn seek_from(pairs: &[u8], q: u64, hint: usize) -> usize
+    requires { Rises pairs.now (length pairs.now / 8) 0 }
+    ensures { Passed pairs.now (length pairs.now / 8) 0 q result }
 {
     if hint == 0 {
         return 0;
     }
-    if n < hint {
+    if pairs.len() / 8 < hint {
         return 0;
     }
-    if number_at(list, p + 8 * (hint - 1) + 4) < q {
+    if high_at(pairs, hint - 1) < q {
         return hint;
     }
     0
 }
 
-// How many of n ascending pairs from p end before the key q. A good hint saves the way.
-fn seek(list: &[u8], p: usize, n: usize, q: u64, hint: usize) -> usize
-    requires bytes { p + 8 * n ≤ length list.now }
-    requires order { Rises list.now n p }
-    ensures { Reach list.now n p q result }
+// How many of the ascending pairs end before the key q. A good hint saves the way.
+fn seek(pairs: &[u8], q: u64, hint: usize) -> usize
+    requires { Rises pairs.now (length pairs.now / 8) 0 }
+    ensures { Reach pairs.now (length pairs.now / 8) 0 q result }
 {
-    let mut j = seek_from(list, p, n, q, hint);
+    let n = pairs.len() / 8;
+    let mut j = seek_from(pairs, q, hint);
     while j < n {
-        if q <= number_at(list, p + 8 * j + 4) {
+        if q <= high_at(pairs, j) {
             return j;
         }
         j += 1;
@@ -105,35 +87,31 @@ fn seek(list: &[u8], p: usize, n: usize, q: u64, hint: usize) -> usize
     j
 }
 
-// The key just behind the first j of n ascending pairs from p; 0, if j is.
-fn floor_at(list: &[u8], p: usize, n: usize, j: usize) -> u64
-    requires bytes { p + 8 * n ≤ length list.now }
-    requires within { j ≤ n }
-    ensures { Floor list.now p j result }
+// The key just behind the first j pairs; 0, if j is.
+fn floor_at(pairs: &[u8], j: usize) -> u64
+    requires { j ≤ length pairs.now / 8 }
+    ensures { Floor pairs.now 0 j result }
 {
     if j == 0 {
         return 0;
     }
-    number_at(list, p + 8 * (j - 1) + 4) + 1
+    high_at(pairs, j - 1) + 1
 }
 
-// The span of the key q for n ascending pairs from p: up to the end of the first pair that reaches q, or to the last key, if none does.
-fn pair_span(list: &[u8], p: usize, n: usize, q: u64, hint: usize) -> Span
-    requires bytes { p + 8 * n ≤ length list.now }
-    requires order { Rises list.now n p }
+// The span of the key q for ascending pairs: up to the end of the first pair that reaches q, or to the last key, if none does.
+fn pair_span(pairs: &[u8], q: u64, hint: usize) -> Span
+    requires order { Rises pairs.now (length pairs.now / 8) 0 }
     requires key { q ≤ last }
-    ensures { Spans list.now n p q result.floor result.low result.high }
+    ensures { Spans pairs.now (length pairs.now / 8) 0 q result.floor result.low result.high }
 {
-    let j = seek(list, p, n, q, hint);
-    let floor = floor_at(list, p, n, j);
-    if j < n {
-        let low = number_at(list, p + 8 * j);
-        let high = number_at(list, p + 8 * j + 4);
+    let j = seek(pairs, q, hint);
+    let floor = floor_at(pairs, j);
+    if j < pairs.len() / 8 {
         return Span {
             pairs: j,
             floor,
-            low,
-            high,
+            low: low_at(pairs, j),
+            high: high_at(pairs, j),
         };
     }
     Span {
@@ -166,66 +144,48 @@ fn atom_span(x: u64, q: u64) -> Span
     }
 }
 
-// The span of the key q for a record whose value, of `size` bytes, starts at p. A good hint, how many of its pairs end before q, saves the way.
-fn find_span(list: &[u8], tag: u8, size: usize, p: usize, q: u64, hint: usize) -> Span
-    requires bytes { p + size ≤ length list.now }
-    requires fits { shape_of tag size ≡ true }
-    requires order { in_order (trans_of list.now tag size p) ≡ true }
-    requires key { q ≤ last }
-    ensures { Covers (trans_of list.now tag size p) tag q result.floor result.low result.high }
+// The span of the key q for a rec. A good hint, how many of its pairs end before q, saves the way.
+fn find_span(rec: Record, q: u64, hint: usize) -> Span
+    requires { q ≤ last }
+    ensures { Covers (transition_of rec.entry) rec.entry.tag q result.floor result.low result.high }
 {
-    if tag == 1 {
-        return atom_span(number_at(list, p), q);
+    if rec.tag == ATOM {
+        return atom_span(number_at(rec.value, 0), q);
     }
-    pair_span(list, p, size / 8, q, hint)
+    pair_span(rec.value, q, hint)
 }
 
 // The same; the last span found, if q lies in it.
-fn span_at(list: &[u8], tag: u8, size: usize, p: usize, q: u64, found: Span) -> Span
-    requires bytes { p + size ≤ length list.now }
-    requires fits { shape_of tag size ≡ true }
-    requires order { in_order (trans_of list.now tag size p) ≡ true }
+fn span_at(rec: Record, q: u64, found: Span) -> Span
     requires key { q ≤ last }
-    requires known { Tells (trans_of list.now tag size p) tag found.floor found.low found.high }
-    ensures { Covers (trans_of list.now tag size p) tag q result.floor result.low result.high }
+    requires known { Tells (transition_of rec) rec.tag found.floor found.low found.high }
+    ensures { Covers (transition_of rec.entry) rec.entry.tag q result.floor result.low result.high }
 {
     if found.floor <= q {
         if q <= found.high {
             return found;
         }
     }
-    find_span(list, tag, size, p, q, found.pairs)
-}
-
-fn bit_of(b: bool) -> u64
-    ensures { (result ≡ bit b) × (result ≤ 1) }
-{
-    if b {
-        return 1;
-    }
-    0
+    find_span(rec, q, found.pairs)
 }
 
 // The bit of a key that lies in a span with this low: is it held?
 fn held(tag: u8, low: u64, q: u64) -> u64
     ensures { (result ≡ bit (by_low tag low q)) × (result ≤ 1) }
 {
-    if 4 <= tag {
-        return bit_of(q < low);
+    if tag >= NOT_SET {
+        return u64::from(q < low);
     }
-    bit_of(low <= q)
+    u64::from(low <= q)
 }
 
-// The bit of a record and a point: does its transition hold it? Its value, of `size` bytes, starts at p.
-fn bit_from(list: &[u8], tag: u8, size: usize, p: usize, point: u32) -> u64
-    requires bytes { p + size ≤ length list.now }
-    requires fits { shape_of tag size ≡ true }
-    requires order { in_order (trans_of list.now tag size p) ≡ true }
-    ensures { (result ≡ bit (holds (trans_of list.now tag size p) point)) × (result ≤ 1) }
+// The bit of a record and a point: does its transition hold it?
+fn bit_from(rec: Record, point: u32) -> u64
+    ensures { (result ≡ bit (holds (transition_of rec.entry) point)) × (result ≤ 1) }
 {
     let q = key_of(point);
-    let span = find_span(list, tag, size, p, q, 0);
-    held(tag, span.low, q)
+    let span = find_span(rec, q, 0);
+    held(rec.tag, span.low, q)
 }
 
 // The mask word of the n records from `at` on: bit i is set where record i holds the point.
@@ -237,11 +197,9 @@ fn word_of(list: &[u8], at: usize, n: usize, point: u32) -> u64
     if n == 0 {
         return 0;
     }
-    let tag = list[at];
-    let size = size_at(list, at + 1);
-    let b = bit_from(list, tag, size, at + 3, point);
-    let more = word_of(list, at + 3 + size, n - 1, point);
-    b + 2 * more
+    let rec = record_at(list, at);
+    let more = word_of(list, at + 3 + rec.value.len(), n - 1, point);
+    bit_from(rec, point) + 2 * more
 }
 
 // Where the record stands that comes n records behind the one at `at`.
@@ -259,15 +217,6 @@ fn skip(list: &[u8], at: usize, n: usize) -> usize
     here
 }
 
-fn at_most_64(n: usize) -> usize
-    ensures { result ≡ min 64 n }
-{
-    if n <= 64 {
-        return n;
-    }
-    64
-}
-
 // Writes the mask of a point over n records from k on, and answers the next place.
 fn put_mask(list: &[u8], n: usize, point: u32, out: &mut [u64], k: usize) -> usize
     requires sound { Fit list.now n 0 }
@@ -278,7 +227,7 @@ fn put_mask(list: &[u8], n: usize, point: u32, out: &mut [u64], k: usize) -> usi
     let mut at: usize = 0;
     let mut m = k;
     while 0 < left {
-        let few = at_most_64(left);
+        let few = left.min(64);
         out[m] = word_of(list, at, few, point);
         at = skip(list, at, few);
         left -= few;
@@ -289,52 +238,23 @@ fn put_mask(list: &[u8], n: usize, point: u32, out: &mut [u64], k: usize) -> usi
 
 // Puts a bit in front of the words of `count` segments: does the transition of a record hold them? Segments ascend, so that most lie in the
 // span of the one before.
-fn add_column(
-    list: &[u8],
-    tag: u8,
-    size: usize,
-    p: usize,
-    segments: &[u32],
-    count: usize,
-    out: &mut [u64],
-)
-    requires bytes { p + size ≤ length list.now }
-    requires fits { shape_of tag size ≡ true }
-    requires order { in_order (trans_of list.now tag size p) ≡ true }
+fn add_column(rec: Record, segments: &[u32], count: usize, out: &mut [u64])
     requires points { 2 * count ≤ length segments.now }
     requires room { Columned count out.old }
-    ensures { out.new ≡ column (trans_of list.now tag size p) (lows segments.now count 0) out.old }
+    ensures { out.new ≡ column (transition_of rec.entry) (lows segments.now count 0) out.old }
 {
-    let mut left = count;
-    let mut at: usize = 0;
-    let mut k: usize = 0;
     let mut span = Span {
         pairs: 0,
         floor: 1,
         low: 0,
         high: 0,
     };
-    while 0 < left {
-        let q = key_of(segments[at]);
-        span = span_at(list, tag, size, p, q, span);
-        let b = held(tag, span.low, q);
+    for k in 0..count {
+        let q = key_of(segments[2 * k]);
+        span = span_at(rec, q, span);
+        let b = held(rec.tag, span.low, q);
         out[k] = b + 2 * out[k];
-        at += 2;
-        k += 1;
-        left -= 1;
     }
-}
-
-fn record_column(list: &[u8], at: usize, segments: &[u32], count: usize, out: &mut [u64])
-    requires sound { Fit list.now 1 at }
-    requires there { at + 3 ≤ length list.now }
-    requires points { 2 * count ≤ length segments.now }
-    requires room { Columned count out.old }
-    ensures { out.new ≡ column (trans_at list.now at) (lows segments.now count 0) out.old }
-{
-    let tag = list[at];
-    let size = size_at(list, at + 1);
-    add_column(list, tag, size, at + 3, segments, count, out);
 }
 
 // Writes the masks of `count` segments, one word each, record by record from the last, and answers how many words they are.
@@ -350,7 +270,7 @@ fn put_columns(list: &[u8], n: usize, segments: &[u32], count: usize, out: &mut 
     let mut i = n;
     while 0 < i {
         let at = skip(list, 0, i - 1);
-        record_column(list, at, segments, count, out);
+        add_column(record_at(list, at), segments, count, out);
         i -= 1;
     }
     count
@@ -398,20 +318,20 @@ fn transition_count(list: &[u8]) -> usize
     ensures { result ≡ length (accepted (parse list.now)) }
 {
     match list_transitions::read_transitions(list) {
-        Transitions::Read { count, intervals } => count,
-        Transitions::Refused(r) => 0,
+        Ok(read) => read.count,
+        Err(_) => 0,
     }
 }
 
 // The masks of the segments that stand, into a buffer of zeros.
 fn fill_masks(list: &[u8], segments: &[u32], count: usize, masks: &mut [u64]) -> Masks
     requires { Ready list.now segments.now count masks.old }
-    ensures { Matrix result (length segments.now) segments.now (length masks.old) masks.new
+    ensures { Matrix (Ok result) (length segments.now) segments.now (length masks.old) masks.new
         (parse list.now) }
 {
     let n = transition_count(list);
     put_masks(list, n, segments, count, masks);
-    Masks::Count {
+    Masks {
         masks: count,
         words: (n + 63) / 64,
     }
@@ -419,21 +339,23 @@ fn fill_masks(list: &[u8], segments: &[u32], count: usize, masks: &mut [u64]) ->
 
 // The segments of a list as low, high, and for each its mask. Refused: every number of both buffers is 0. Accepted: behind the answer's
 // numbers there are zeros.
-pub fn segment_mask_matrix(list: &[u8], segments: &mut [u32], masks: &mut [u64]) -> Masks
+pub fn segment_mask_matrix(
+    list: &[u8],
+    segments: &mut [u32],
+    masks: &mut [u64],
+) -> Result<Masks, Refusal>
     ensures { Matrix result (length segments.old) segments.new (length masks.old) masks.new
         (parse_masks (length segments.old) (length masks.old) list.now) }
 {
     buffer::clear_words(masks);
     if masks.len() < WORDS {
         buffer::clear(segments);
-        return Masks::Refused(Refusal {
+        return Err(Refusal {
             number: ROOM,
             item: 0,
             place: 0,
         });
     }
-    match list_segments::char_segments(list, segments) {
-        Segments::Count(count) => fill_masks(list, segments, count, masks),
-        Segments::Refused(r) => Masks::Refused(r),
-    }
+    let count = list_segments::char_segments(list, segments)?;
+    Ok(fill_masks(list, segments, count, masks))
 }

@@ -1,6 +1,6 @@
 pub mod Order
 pub mod Pairs
-pub mod Tags
+pub mod Values
 pub mod Records
 pub mod Accepted
 pub mod Holds

@@ -1,33 +1,25 @@
 -- The laws of the loops over the pairs of a set that judge their order and count their intervals. w is the list's bytes. Assumes nothing.
-use mathlib.Core.Path.{◌≡◌, refl, sym, ap, ◌∙◌}
+use mathlib.Core.Path.{◌≡◌, refl, ◌∙◌}
 use mathlib.Core.List.{List, [], ◌∷◌}
 use mathlib.Core.Bool.{Bool, true, false}
-use Prim.Native.Nat.{ℕ, zero, suc, ◌+◌, ◌*◌, ◌-◌, ◌%◌, ◌<◌, ◌≤◌, max, min}
-use native.Mathlib.Nat.{not-suc-le-zero}
-use native.Mathlib.Numerals.{sub-one, add-one}
+use Prim.Native.Nat.{ℕ, suc, ◌+◌, ◌*◌, ◌-◌, ◌/◌, ◌<◌, ◌≤◌, max, min}
+use native.Mathlib.Nat.{sub-zero}
+use native.Mathlib.Numerals.{add-one}
 use native.Mathlib.Omega.{arith}
 use borrow.Author.Rules.{rules}
 use borrow.Author.Tests.{le-leb, lt-leb, lt-ltb, le-ltb, eq-eqb, ne_eqb}
-use lib.ListN.{length, get_or}
+use lib.ListN.{length}
 use lib.Dec.{ltb}
+use mir.Val.{bool_byte}
+use Rattle.std.specs.Prelude.{Option, Some, None, is_some}
 use Rattle.refusal.specs.Lists.{pick}
-use Rattle.list_transitions.specs.Transition.{origin, points, beyond, orderly}
+use Rattle.list_transitions.specs.Transition.{Pair, origin, points, beyond, orderly}
 use Rattle.list_transitions.specs.Intervals.{Span, clip, clipped, clips, gaps}
-use Rattle.list_transitions.specs.Bytes.{size_at, number_at, pair_at, pairs_at}
+use Rattle.list_transitions.specs.Bytes.{number_at, pair_at, pairs_at, pairs_in}
+use Rattle.list_transitions.specs.Values.{spans_of}
 
 -- by the tests on the way
 pub ruleset cases = (rules, le-leb, lt-leb, eq-eqb, ne_eqb, lt-ltb, le-ltb)
-
--- A number: two bytes, and two more
-
-pub number_of : (w : List ℕ) (p : ℕ) {a b : ℕ} → a ≡ size_at w p → b ≡ size_at w (p + 2) → (a + 65536 * b + origin) % 4294967296 ≡ number_at w p
-unfolding size_at number_at
-number_of w p {a} {b} e f =
-    let q : p + 2 + 1 ≡ p + 3 = omega arith in
-    let x : get_or w (p + 2 + 1) 0 ≡ get_or w (p + 3) 0 = ap (λ (i : ℕ). get_or w i 0) q in
-    ap (λ (n : ℕ). (n + origin) % 4294967296) (omega (arith, x, e, f))
-
-pub ruleset numbers = (rules, number_of)
 
 -- One interval, or none
 
@@ -39,19 +31,18 @@ pub clip_one : (a b : ℕ) → a - origin < min (b - origin) points → clip a b
 unfolding clip
 clip_one a b h = rw (lt-ltb (a - origin) (min (b - origin) points) h)
 
-pub live_before : (a b : ℕ) → b ≤ origin → 0 ≡ length (clip a b [])
-live_before a b h = sym (ap length (clip-none a b (omega arith)))
+module _ (a b : ℕ) {x y z : ℕ} (f : x ≡ a - origin) (g : y ≡ b - origin) (h : z ≡ min y points) where
+  pub cut_some : x < z → clip a b [] ≡ record { low = x; end = z } ∷ []
+  cut_some k = clip_one a b (omega arith) ∙ (rw (f, h, g))
 
-pub live_past : (a b : ℕ) → beyond ≤ a → 0 ≡ length (clip a b [])
-live_past a b h = sym (ap length (clip-none a b (omega arith)))
+  pub cut-none : z ≤ x → clip a b [] ≡ []
+  cut-none k = clip-none a b (omega arith)
 
-pub live_empty : (a b : ℕ) → b ≤ a → 0 ≡ length (clip a b [])
-live_empty a b h = sym (ap length (clip-none a b (omega arith)))
+pub ruleset cuts = (rules, cut_some, cut-none)
 
-pub live_one : (a b : ℕ) → origin < b → a < beyond → a < b → 1 ≡ length (clip a b [])
-live_one a b h k l = sym (ap length (clip_one a b (omega arith)))
-
-pub ruleset lives = (rules, live_before, live_past, live_empty, live_one)
+pub live : (o : Option (ℕ × ℕ)) {ss : List Span} {t : Bool} {r : ℕ} → ss ≡ spans_of o → t ≡ is_some o → r ≡ bool_byte t → (r ≡ length ss) × (r ≤ 1)
+live (Some s) e f g = rw (e, g, f) (refl, omega arith)
+live None e f g = rw (e, g, f) (refl, omega arith)
 
 pub length-clip : (a b : ℕ) (rest : List Span) → length (clip a b rest) ≡ length (clip a b []) + length rest
 unfolding clip
@@ -61,72 +52,91 @@ length-clip a b rest = go (ltb (a - origin) (min (b - origin) points))
     go true = omega arith
     go false = omega arith
 
+-- The pairs from the one at i on
+
+unfoldable pub pairs_from : List ℕ → ℕ → List Pair
+pairs_from w i = pairs_at w (length w / 8 - i) (8 * i)
+
+pairs_open : (w : List ℕ) (n p : ℕ) → pairs_at w (suc n) p ≡ pair_at w p ∷ pairs_at w n (p + 8)
+unfolding pairs_at
+pairs_open w n p = refl
+
+pairs_none : (w : List ℕ) (p : ℕ) → pairs_at w 0 p ≡ []
+unfolding pairs_at
+pairs_none w p = refl
+
 module _ (w : List ℕ) where
-  -- The first pair and the others
+  pub pairs_all : pairs_from w 0 ≡ pairs_in w
+  unfolding pairs_from
+  pairs_all = rw sub-zero
 
-  pub pairs_turn : (left here : ℕ) → 0 < left → pairs_at w left here ≡ pair_at w here ∷ pairs_at w (left - 1) (here + 8)
-  unfolding pairs_at
-  pairs_turn zero here h = absurd (not-suc-le-zero h)
-  pairs_turn (suc n) here h = rw sub-one
+  pub pairs_turn : (i : ℕ) → i < length w / 8 → pairs_from w i ≡ pair_at w (8 * i) ∷ pairs_from w (i + 1)
+  unfolding pairs_from
+  pairs_turn i h =
+      let one : length w / 8 - i ≡ suc (length w / 8 - (i + 1)) = omega arith in
+      let on : 8 * i + 8 ≡ 8 * (i + 1) = omega arith in
+      rw (one, ← on) (pairs_open w (length w / 8 - (i + 1)) (8 * i))
 
-  pub pairs_done : (left here : ℕ) → left ≤ 0 → pairs_at w left here ≡ []
-  unfolding pairs_at
-  pairs_done zero here h = refl
-  pairs_done (suc n) here h = absurd (not-suc-le-zero h)
+  pub pairs_done : (i : ℕ) → length w / 8 ≤ i → pairs_from w i ≡ []
+  unfolding pairs_from
+  pairs_done i h =
+      let none : length w / 8 - i ≡ 0 = omega arith in
+      rw none (pairs_none w (8 * i))
 
   -- The loop that judges the order
 
-  module _ (f left here : ℕ) {low high : ℕ} {all : Bool} (n : 0 < left) (a : low ≡ number_at w here) (b : high ≡ number_at w (here + 4)) where
-    pub order_low : low < f → orderly f (pairs_at w left here) ≡ all → false ≡ all
+  module _ (f i : ℕ) {low high : ℕ} {all : Bool} (n : i < length w / 8) (a : low ≡ number_at w (8 * i)) (b : high ≡ number_at w (8 * i + 4)) where
+    pub order_low : low < f → orderly f (pairs_from w i) ≡ all → false ≡ all
     unfolding orderly
-    order_low h i = rw (pairs_turn left here n, ← a, lt-ltb low f h) at i
+    order_low h e = rw (pairs_turn i n, ← a, lt-ltb low f h) at e
 
-    pub order_high : f ≤ low → high < low → orderly f (pairs_at w left here) ≡ all → false ≡ all
+    pub order_high : f ≤ low → high < low → orderly f (pairs_from w i) ≡ all → false ≡ all
     unfolding orderly
-    order_high g h i = rw (pairs_turn left here n, ← a, ← b, le-ltb low f g, lt-ltb high low h) at i
+    order_high g h e = rw (pairs_turn i n, ← a, ← b, le-ltb low f g, lt-ltb high low h) at e
 
-    pub order_turn : f ≤ low → low ≤ high → orderly f (pairs_at w left here) ≡ all → orderly (high + 1) (pairs_at w (left - 1) (here + 8)) ≡ all
+    pub order_turn : f ≤ low → low ≤ high → orderly f (pairs_from w i) ≡ all → orderly (high + 1) (pairs_from w (i + 1)) ≡ all
     unfolding orderly
-    order_turn g h i = rw (pairs_turn left here n, ← a, ← b, le-ltb low f g, le-ltb high low h) at i
+    order_turn g h e = rw (pairs_turn i n, ← a, ← b, le-ltb low f g, le-ltb high low h) at e
 
-  pub order_done : (f left here : ℕ) {all : Bool} → left ≤ 0 → orderly f (pairs_at w left here) ≡ all → true ≡ all
+  pub order_done : (f i : ℕ) {all : Bool} → length w / 8 ≤ i → orderly f (pairs_from w i) ≡ all → true ≡ all
   unfolding orderly
-  order_done f left here n i = rw (pairs_done left here n) at i
+  order_done f i n e = rw (pairs_done i n) at e
 
   -- The loops that count
 
-  pub clips_turn : (left here found : ℕ) {low high r all : ℕ} → 0 < left → low ≡ number_at w here → high ≡ number_at w (here + 4) →
+  pub clips_turn : (i found : ℕ) {low high r all : ℕ} → i < length w / 8 → low ≡ number_at w (8 * i) → high ≡ number_at w (8 * i + 4) →
       r ≡ length (clip low (high + 1) []) →
-      found + length (clips (pairs_at w left here)) ≡ all → found + r + length (clips (pairs_at w (left - 1) (here + 8))) ≡ all
+      found + length (clips (pairs_from w i)) ≡ all → found + r + length (clips (pairs_from w (i + 1))) ≡ all
   unfolding clips
-  clips_turn left here found {low} {high} {r} n a b e i =
-      let one : length (clips (pairs_at w left here))
-      ≡ length (clip (number_at w here) (suc (number_at w (here + 4))) []) + length (clips (pairs_at w (left - 1) (here + 8)))
-      = rw (pairs_turn left here n) (length-clip _ _ _) in
-      let r' : r ≡ length (clip (number_at w here) (suc (number_at w (here + 4))) []) = e ∙ (rw (add-one, a, b)) in
+  clips_turn i found {low} {high} {r} n a b e k =
+      let one : length (clips (pairs_from w i)) ≡ length (clip (number_at w (8 * i)) (suc (number_at w (8 * i + 4))) []) + length (clips (pairs_from w (i + 1)))
+      = rw (pairs_turn i n) (length-clip _ _ _) in
+      let r' : r ≡ length (clip (number_at w (8 * i)) (suc (number_at w (8 * i + 4))) []) = e ∙ (rw (add-one, a, b)) in
       omega arith
 
-  pub clips_done : (left here found : ℕ) {all : ℕ} → left ≤ 0 → found + length (clips (pairs_at w left here)) ≡ all → found ≡ all
+  pub clips_done : (i found : ℕ) {all : ℕ} → length w / 8 ≤ i → found + length (clips (pairs_from w i)) ≡ all → found ≡ all
   unfolding clips
-  clips_done left here found n i = let j = rw (pairs_done left here n) at i in omega arith
+  clips_done i found n k = let j = rw (pairs_done i n) at k in omega arith
 
-  pub gaps_turn : (left here next found : ℕ) {low high r after all : ℕ} → 0 < left → low ≡ number_at w here →
-      high ≡ number_at w (here + 4) → r ≡ length (clip next low []) → after ≡ max next (suc high) → found + length (gaps next (pairs_at w left here)) ≡ all →
-      found + r + length (gaps after (pairs_at w (left - 1) (here + 8))) ≡ all
+  pub gaps_turn : (i next found : ℕ) {low high r after all : ℕ} → i < length w / 8 → low ≡ number_at w (8 * i) →
+      high ≡ number_at w (8 * i + 4) → r ≡ length (clip next low []) → after ≡ max next (high + 1) →
+      found + length (gaps next (pairs_from w i)) ≡ all →
+      found + r + length (gaps after (pairs_from w (i + 1))) ≡ all
   unfolding gaps
-  gaps_turn left here next found {low} {high} {r} n a b e g i =
-      let one : length (gaps next (pairs_at w left here))
-      ≡ length (clip next (number_at w here) []) + length (gaps (max next (suc (number_at w (here + 4)))) (pairs_at w (left - 1) (here + 8)))
-      = rw (pairs_turn left here n) (length-clip _ _ _) in
-      let r' : r ≡ length (clip next (number_at w here) []) = e ∙ (rw a) in
-      rw (g, b) (omega arith)
+  gaps_turn i next found {low} {high} {r} {after} n a b e g k =
+      let one : length (gaps next (pairs_from w i))
+      ≡ length (clip next (number_at w (8 * i)) []) + length (gaps (max next (suc (number_at w (8 * i + 4)))) (pairs_from w (i + 1)))
+      = rw (pairs_turn i n) (length-clip _ _ _) in
+      let r' : r ≡ length (clip next (number_at w (8 * i)) []) = e ∙ (rw a) in
+      let f : after ≡ max next (suc (number_at w (8 * i + 4))) = g ∙ (rw (add-one, b)) in
+      rw f (omega arith)
 
-  pub gaps_done : (left here next found : ℕ) {r all : ℕ} → left ≤ 0 → r ≡ length (clip next beyond []) →
-      found + length (gaps next (pairs_at w left here)) ≡ all → found + r ≡ all
+  pub gaps_done : (i next found : ℕ) {r all : ℕ} → length w / 8 ≤ i → r ≡ length (clip next beyond []) →
+      found + length (gaps next (pairs_from w i)) ≡ all → found + r ≡ all
   unfolding gaps
-  gaps_done left here next found {r} n e i =
-      let one : length (gaps next (pairs_at w left here)) ≡ length (clip next beyond []) = rw (pairs_done left here n) in omega arith
+  gaps_done i next found {r} n e k =
+      let one : length (gaps next (pairs_from w i)) ≡ length (clip next beyond []) = rw (pairs_done i n) in omega arith
 
-pub ruleset order = (rules, order_low, order_high, order_turn, order_done)
+pub ruleset order = (rules, pairs_all, order_low, order_high, order_turn, order_done)
 
-pub ruleset counts = (rules, clips_turn, clips_done, gaps_turn, gaps_done)
+pub ruleset counts = (rules, pairs_all, clips_turn, clips_done, gaps_turn, gaps_done)

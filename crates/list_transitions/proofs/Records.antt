@@ -7,66 +7,63 @@ use native.Mathlib.Nat.{add-zero}
 use native.Mathlib.Omega.{arith}
 use borrow.Author.Rules.{rules}
 use borrow.Author.Tests.{le-leb, lt-leb, lt-ltb, le-ltb}
-use lib.ListN.{length, get_or}
-use Rattle.refusal.specs.Said.{Said, ok, no_by, no, SHORT, FIELD, ORDER, LIMIT}
+use lib.ListN.{length, get_or, take, drop}
+use Rattle.std.specs.Prelude.{Result, Ok, Err}
+use Rattle.refusal.specs.declared.Refusal.{Refusal}
+use Rattle.refusal.specs.Said.{Said, ok, no_by, no, refusal_at, SHORT, FIELD, ORDER, LIMIT}
 use Rattle.list_transitions.specs.Transition.{Transition, in_order}
 use Rattle.list_transitions.specs.Intervals.{intervals, total}
-use Rattle.list_transitions.specs.Bytes.{size_at, shape_of, trans_of}
+use Rattle.list_transitions.specs.Bytes.{size_at, shape_of}
 use Rattle.list_transitions.specs.Read.{said, Rec, good, bad, body_at, record_at, step_of, Parsed, parsed, refused, more, onward, parse_from, counted}
 use Rattle.list_transitions.specs.declared.Step.{Step}
-use Rattle.list_transitions.specs.declared.Step.TheVariants.{Good, Bad}
 use Rattle.list_transitions.specs.declared.Transitions.{Transitions}
-use Rattle.list_transitions.specs.declared.Transitions.TheVariants.{Read, Refused}
+use Rattle.list_transitions.specs.declared.Value.{Value}
+use Rattle.list_transitions.specs.Values.{transition_of, Says}
+use Rattle.list_transitions.proofs.Values.{part-shape, part-says}
 use Rattle.list_transitions.proofs.Order.{le_cases}
 
 -- A record's value is judged
 
-module _ (w : List ℕ) (at size : ℕ) {s : Bool} (e : s ≡ shape_of (get_or w at 0) size) where
-  pub body_field : s ≡ false → Bad FIELD ≡ step_of (body_at w at size)
+module _ (w : List ℕ) (at size n : ℕ) (l : at + 3 + size ≤ length w) (e : n ≡ at + 3 + size) where
+  abbrev value : List ℕ
+  value = take (n - (at + 3)) (drop (at + 3) w)
+
+  pub body_field : {r : Refusal} → shape_of (get_or w at 0) (length value) ≡ false → r ≡ refusal_at FIELD at → Err r ≡ step_of at (body_at w at size)
   unfolding body_at step_of
-  body_field h = rw (← e, h)
+  body_field s f = rw (← part-shape w (at + 3) size n l e (get_or w at 0), s, f)
 
-  module _ {o : Bool} (f : o ≡ in_order (trans_of w (get_or w at 0) size (at + 3))) (g : s ≡ true) where
-    pub body_order : o ≡ false → Bad ORDER ≡ step_of (body_at w at size)
+  module _ {v : Value} (s : Says (get_or w at 0) value v) {b : Bool} (o : b ≡ in_order (transition_of v)) where
+    pub body_order : {r : Refusal} → b ≡ false → r ≡ refusal_at ORDER at → Err r ≡ step_of at (body_at w at size)
     unfolding body_at step_of
-    body_order h = rw (← e, g, ← f, h)
+    body_order h f = let p = part-says w (at + 3) size n l e s in rw (p.0, ← p.1, ← o, h, f)
 
-    pub body_good : {n : ℕ} → o ≡ true → n ≡ length (intervals (trans_of w (get_or w at 0) size (at + 3))) →
-        Good (at + 3 + size) n ≡ step_of (body_at w at size)
+    pub body_good : {m : ℕ} → b ≡ true → m ≡ length (intervals (transition_of v)) → Ok (record { next = n; intervals = m }) ≡ step_of at (body_at w at size)
     unfolding body_at step_of
-    body_good h k = rw (← e, g, ← f, h, k)
-
--- what a test answered, as the next call wants it
-pub shaped : (tag size : ℕ) {s : Bool} → s ≡ shape_of tag size → s ≡ true → shape_of tag size ≡ true
-shaped tag size e h = sym e ∙ h
+    body_good h k = let p = part-says w (at + 3) size n l e s in rw (p.0, ← p.1, ← o, h, k, e)
 
 -- A record is there, or the input ends
 
 module _ (w : List ℕ) (at : ℕ) where
-  pub short_1 : length w ≤ at → Bad SHORT ≡ step_of (record_at w at)
+  pub short_1 : {r : Refusal} → r ≡ refusal_at SHORT at → length w - at < 3 → Err r ≡ step_of at (record_at w at)
   unfolding record_at step_of
-  short_1 h = let m : length w < at + 3 = omega arith in simp (lt-leb _ _ m)
-
-  pub short_2 : at < length w → length w - at < 3 → Bad SHORT ≡ step_of (record_at w at)
-  unfolding record_at step_of
-  short_2 g h = let m : length w < at + 3 = omega arith in simp (lt-leb _ _ m)
+  short_1 f h = let m : length w < at + 3 = omega arith in rw (f, lt-leb _ _ m)
 
   module _ {s : ℕ} (g : at < length w) (h : 3 ≤ length w - at) (e : s ≡ size_at w (at + 1)) where
-    pub short_3 : length w - at - 3 < s → Bad SHORT ≡ step_of (record_at w at)
+    pub short_2 : {r : Refusal} → r ≡ refusal_at SHORT at → length w - at - 3 < s → Err r ≡ step_of at (record_at w at)
     unfolding record_at step_of
-    short_3 k =
+    short_2 f k =
         let m : at + 3 ≤ length w = omega arith in
         let l : length w < at + 3 + s = omega arith in
-        rw (le-leb _ _ m, ← e, lt-leb _ _ l)
+        rw (f, le-leb _ _ m, ← e, lt-leb _ _ l)
 
-    pub whole : {r : Step} → s ≤ length w - at - 3 → r ≡ step_of (body_at w at s) → r ≡ step_of (record_at w at)
+    pub whole : {r : Result Step Refusal} → s ≤ length w - at - 3 → r ≡ step_of at (body_at w at s) → r ≡ step_of at (record_at w at)
     unfolding record_at
     whole k b =
         let m : at + 3 ≤ length w = omega arith in
         let l : at + 3 + s ≤ length w = omega arith in
         rw (le-leb _ _ m, ← e, le-leb _ _ l) b
 
-pub ruleset judging = (rules, shaped, body_field, body_order, body_good, short_1, short_2, short_3, whole)
+pub ruleset judging = (rules, short_1, short_2, whole)
 
 -- One turn of the definition: a bad record, one past a limit, and a good one
 
@@ -119,50 +116,59 @@ counted-more m k t (refused n p) = refl
 
 -- The loop: what is counted of the rest, with what was counted, is what is counted of all
 
-step_bad : (x : Rec) {got : Step} {n : ℕ} → got ≡ step_of x → got ≡ Bad n → x ≡ bad n
+record Ill (x : Rec) (at : ℕ) (r : Refusal) : Type 0 where
+  number : ℕ
+  is : x ≡ bad number
+  said : r ≡ refusal_at number at
+
+step_bad : (at : ℕ) (x : Rec) {got : Result Step Refusal} {r : Refusal} → got ≡ step_of at x → got ≡ Err r → Ill x at r
 unfolding step_of
-step_bad (good t next) a b = let z : ◌≡◌ {A = ℕ} 0 1 = cc in absurd (omega arith)
-step_bad (bad m) a b = cc
+step_bad at (good t next) a b = cc
+step_bad at (bad m) a b = record { number = m; is = refl; said = cc }
 
 record Got (x : Rec) (next k : ℕ) : Type 0 where
   t : Transition
   is : x ≡ good t next
   size : k ≡ length (intervals t)
 
-step-good : (x : Rec) {got : Step} {next k : ℕ} → got ≡ step_of x → got ≡ Good next k → Got x next k
+step-good : (at : ℕ) (x : Rec) {got : Result Step Refusal} {s : Step} → got ≡ step_of at x → got ≡ Ok s → Got x s.next s.intervals
 unfolding step_of
-step-good (good t m) a b = record { t = t; is = cc; size = cc }
-step-good (bad m) a b = let z : ◌≡◌ {A = ℕ} 0 1 = cc in absurd (omega arith)
+step-good at (good t m) {got} {s} a b =
+    let e : s ≡ record { next = m; intervals = length (intervals t) } = cc in
+    record { t = t; is = rw e; size = rw e }
+step-good at (bad m) a b = cc
 
-module _ (w : List ℕ) (left at used : ℕ) {got : Step} {all : Said} (l : at < length w) (g : got ≡ step_of (record_at w at))
+module _ (w : List ℕ) (left at used : ℕ) {got : Result Step Refusal} {all : Said} (l : at < length w) (g : got ≡ step_of at (record_at w at))
     (i : counted_from (256 - left) used (parse_from w left at used) ≡ all) where
-  pub rec_bad : {n : ℕ} (r : Transitions) → said r ≡ no n at → got ≡ Bad n → said r ≡ all
+  pub rec_bad : {r : Refusal} → got ≡ Err r → said (Err r) ≡ all
   unfolding counted_from
-  rec_bad {n} r s e = s ∙ rw (parse_bad w at used l left n (step_bad (record_at w at) g e)) at i
+  rec_bad e =
+      let ill = step_bad at (record_at w at) g e in
+      ap no_by ill.said ∙ rw (parse_bad w at used l left ill.number ill.is) at i
 
-  module _ {next k : ℕ} (e : got ≡ Good next k) where
-    here : Got (record_at w at) next k
-    here = step-good (record_at w at) g e
+  module _ {s : Step} (e : got ≡ Ok s) where
+    here : Got (record_at w at) s.next s.intervals
+    here = step-good at (record_at w at) g e
 
-    pub rec_full : (r : Transitions) → said r ≡ no LIMIT at → left ≡ 0 → said r ≡ all
+    pub rec_full : {r : Refusal} → r ≡ refusal_at LIMIT at → left ≡ 0 → said (Err r) ≡ all
     unfolding counted_from
-    rec_full r s z = s ∙ rw (parse_full w at used l left here.t next here.is z) at i
+    rec_full h z = ap no_by h ∙ rw (parse_full w at used l left here.t s.next here.is z) at i
 
-    pub rec_over : (r : Transitions) → said r ≡ no LIMIT at → used ≤ 1024 → 1024 - used < k → said r ≡ all
+    pub rec_over : {r : Refusal} → r ≡ refusal_at LIMIT at → used ≤ 1024 → 1024 - used < s.intervals → said (Err r) ≡ all
     unfolding counted_from
-    rec_over r s u h = s ∙ rw (parse-over w at used l left here.t next here.is (omega (arith, here.size))) at i
+    rec_over n u h = ap no_by n ∙ rw (parse-over w at used l left here.t s.next here.is (omega (arith, here.size))) at i
 
-    pub rec_turn : (left ≡ 0 → ⊥) → left ≤ 256 → used ≤ 1024 → k ≤ 1024 - used →
-        counted_from (256 - (left - 1)) (used + k) (parse_from w (left - 1) next (used + k)) ≡ all
+    pub rec_turn : (left ≡ 0 → ⊥) → left ≤ 256 → used ≤ 1024 → s.intervals ≤ 1024 - used →
+        counted_from (256 - (left - 1)) (used + s.intervals) (parse_from w (left - 1) s.next (used + s.intervals)) ≡ all
     rec_turn z m u h =
         let one : left ≡ suc (left - 1) = omega arith in
         let up : suc (256 - left) ≡ 256 - (left - 1) = omega arith in
-        let on : parse_from w left at used ≡ more here.t (parse_from w (left - 1) next (used + length (intervals here.t)))
-        = ap (λ (n : ℕ). parse_from w n at used) one ∙ parse_on w at used l (left - 1) here.t next here.is (omega (arith, here.size)) in
+        let on : parse_from w left at used ≡ more here.t (parse_from w (left - 1) s.next (used + length (intervals here.t)))
+        = ap (λ (n : ℕ). parse_from w n at used) one ∙ parse_on w at used l (left - 1) here.t s.next here.is (omega (arith, here.size)) in
         rw (← up, here.size) (sym (counted-more (256 - left) used here.t _) ∙ ap (counted_from (256 - left) used) (sym on) ∙ i)
 
 pub rec_done : (w : List ℕ) (left at used : ℕ) {all : Said} → length w ≤ at →
-    counted_from (256 - left) used (parse_from w left at used) ≡ all → said (Read (256 - left) used) ≡ all
+    counted_from (256 - left) used (parse_from w left at used) ≡ all → said (Ok (record { count = 256 - left; intervals = used })) ≡ all
 unfolding parse_from counted_from total
 rec_done w left at used {all} l i = ap₂ {C = Said} (λ m k. ok (m ∷ k ∷ [])) (sym (add-zero (256 - left))) (sym (add-zero used)) ∙ ends left i
   where
@@ -173,13 +179,13 @@ rec_done w left at used {all} l i = ap₂ {C = Said} (λ m k. ok (m ∷ k ∷ []
 pub ruleset records = (rules, counted_start, rec_bad, rec_full, rec_over, rec_turn, rec_done)
 
 -- `said` takes no two answers to one: what it says gives the answer back
-abbrev back : Said → Transitions
-back (ok l) = Read (get_or l 0 0) (get_or l 1 0)
-back (no_by r) = Refused r
+abbrev back : Said → Result Transitions Refusal
+back (ok l) = Ok (record { count = get_or l 0 0; intervals = get_or l 1 0 })
+back (no_by r) = Err r
 
-back-said : (x : Transitions) → back (said x) ≡ x
-back-said (Read count intervals) = refl
-back-said (Refused r) = refl
+back-said : (x : Result Transitions Refusal) → back (said x) ≡ x
+back-said (Ok t) = refl
+back-said (Err r) = refl
 
-pub said_one : (x y : Transitions) → said x ≡ said y → x ≡ y
+pub said_one : (x y : Result Transitions Refusal) → said x ≡ said y → x ≡ y
 said_one x y e = sym (back-said x) ∙ ap back e ∙ back-said y

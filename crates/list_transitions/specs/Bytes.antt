@@ -1,6 +1,6 @@
 -- What the bytes of a record stand for (document 01, "Transitions, segments, rows"). w is the list's bytes, p a place in it, size the
 -- length that a record states. Assumes nothing.
-use Rattle.std.specs.Prelude.{ℕ, zero, suc, ◌+◌, ◌*◌, ◌/◌, ◌%◌, List, [], ◌∷◌, Bool, false, get_or, eqb}
+use Rattle.std.specs.Prelude.{ℕ, zero, suc, ◌+◌, ◌*◌, ◌/◌, ◌%◌, List, [], ◌∷◌, Bool, false, length, get_or, eqb}
 use Rattle.refusal.specs.Lists.{pick}
 use Rattle.list_transitions.specs.Transition.{Transition, Pair, atom, range, set, not_set, wildcard, key}
 
@@ -20,6 +20,10 @@ pair_at w p = record { low = number_at w p; high = number_at w (p + 4) }
 unfoldable pub pairs_at : List ℕ → ℕ → ℕ → List Pair
 pairs_at w zero p = []
 pairs_at w (suc n) p = pair_at w p ∷ pairs_at w n (p + 8)
+
+-- the pairs that a value's bytes are
+abbrev pub pairs_in : List ℕ → List Pair
+pairs_in w = pairs_at w (length w / 8) 0
 
 -- "1 atom (4 bytes), 2 range (8), 3 set and 4 not-set (8 each pair), 5 wildcard (0)": no other tag, and no other length
 unfoldable pub shape_of : ℕ → ℕ → Bool

@@ -1,5 +1,6 @@
 -- What reading into a lent buffer of n numbers answers, and leaves there. Assumes nothing.
-use Rattle.std.specs.Prelude.{ℕ, ◌≡◌, List, ltb}
+use Rattle.std.specs.Prelude.{ℕ, ◌≡◌, List, ltb, Result}
+use Rattle.refusal.specs.declared.Refusal.{Refusal}
 use Rattle.refusal.specs.Said.{ROOM}
 use Rattle.refusal.specs.Lists.{pick}
 use Rattle.buffer.specs.Over.{zeros, padded}
@@ -17,6 +18,6 @@ ends_in n (parsed ts) = padded n (ends_all ts)
 ends_in n (refused k p) = zeros n
 
 -- the answer says it, and the buffer holds it
-pub record Writes (r : Transitions) (n : ℕ) (out : List ℕ) (x : Parsed) : Type 0 where
+pub record Writes (r : Result Transitions Refusal) (n : ℕ) (out : List ℕ) (x : Parsed) : Type 0 where
   pub says : said r ≡ counted x
   pub leaves : out ≡ ends_in n x

@@ -1,20 +1,19 @@
 -- A list of transitions is read record by record (document 01, "Transitions, segments, rows"): "SHORT, FIELD (tag, then length), ORDER,
 -- LIMIT; all at the record's offset". w is the list's bytes, `at` a record's offset. Assumes nothing.
-use Rattle.std.specs.Prelude.{ℕ, zero, suc, ◌+◌, List, [], ◌∷◌, Bool, true, false, length, get_or, ltb, leb}
-use Rattle.refusal.specs.Said.{Said, ok, no_by, no, SHORT, FIELD, LIMIT, ORDER}
+use Rattle.std.specs.Prelude.{ℕ, zero, suc, ◌+◌, List, [], ◌∷◌, Bool, true, false, length, get_or, ltb, leb, Result, Ok, Err}
+use Rattle.refusal.specs.declared.Refusal.{Refusal}
+use Rattle.refusal.specs.Said.{Said, ok, no_by, no, refusal_at, SHORT, FIELD, LIMIT, ORDER}
 use Rattle.refusal.specs.Lists.{pick}
 use Rattle.list_transitions.specs.Transition.{Transition, in_order}
 use Rattle.list_transitions.specs.Intervals.{intervals, total}
 use Rattle.list_transitions.specs.Bytes.{size_at, shape_of, trans_of}
 use Rattle.list_transitions.specs.declared.Step.{Step}
-use Rattle.list_transitions.specs.declared.Step.TheVariants.{Good, Bad}
 use Rattle.list_transitions.specs.declared.Transitions.{Transitions}
-use Rattle.list_transitions.specs.declared.Transitions.TheVariants.{Read, Refused}
 
 -- how many transitions and intervals a list has, or a refusal
-abbrev pub said : Transitions → Said
-said (Read count intervals) = ok (count ∷ intervals ∷ [])
-said (Refused r) = no_by r
+abbrev pub said : Result Transitions Refusal → Said
+said (Ok t) = ok (t.count ∷ t.intervals ∷ [])
+said (Err r) = no_by r
 
 -- a record: its transition and where the next one starts, or its refusal's number
 pub data Rec : Type 0 where
@@ -37,10 +36,10 @@ record_at w at =
     (pick (leb (at + 3 + size_at w (at + 1)) (length w)) (body_at w at (size_at w (at + 1))) (bad SHORT))
     (bad SHORT)
 
--- where the next record starts and how many intervals this one has
-unfoldable pub step_of : Rec → Step
-step_of (good t next) = Good next (length (intervals t))
-step_of (bad n) = Bad n
+-- where the next record starts and how many intervals this one has, or its refusal: the record stands at `at`
+unfoldable pub step_of : ℕ → Rec → Result Step Refusal
+step_of at (good t next) = Ok (record { next = next; intervals = length (intervals t) })
+step_of at (bad n) = Err (refusal_at n at)
 
 -- a list: its transitions, or a refusal's number and place
 pub data Parsed : Type 0 where

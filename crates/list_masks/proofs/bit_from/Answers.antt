@@ -2,14 +2,8 @@
 use Rattle.list_masks.proofs.Holds.{telling}
 use Rattle.list_masks.proofs.bit_from.Goals as goal
 
-pub key_of-q-requires : goal.key_of-q-requires
-key_of-q-requires c = search telling
-
 pub find_span-span-requires : goal.find_span-span-requires
 find_span-span-requires c = search telling
-
-pub held-requires : goal.held-requires
-held-requires c = search telling
 
 pub returns : goal.returns
 returns c = search telling

@@ -5,8 +5,8 @@ use Rattle.list_masks.proofs.put_mask.Goals as goal
 pub loop-left-init : goal.loop-left-init
 loop-left-init c = search masking
 
-pub at_most_64-few-requires : goal.at_most_64-few-requires
-at_most_64-few-requires c = search masking
+pub min-few-requires : goal.min-few-requires
+min-few-requires c = search masking
 
 pub word_of-requires : goal.word_of-requires
 word_of-requires c = search masking
@@ -33,8 +33,8 @@ pub loop-left-preserved : goal.loop-left-preserved
 loop-left-preserved c =
     let l = c.loop-left in
     let some : 0 < l.left = c.loop-left-test.true in (
-      mask_rest _ _ _ 0 some c.at_most_64-few.ensures c.skip-at.ensures l.invariant.0,
-      mask_turn _ _ _ _ some c.at_most_64-few.ensures _ _ _ _ _ l.invariant.1 c.word_of.ensures c.skip-at.ensures,
+      mask_rest _ _ _ 0 some c.min-few.ensures c.skip-at.ensures l.invariant.0,
+      mask_turn _ _ _ _ some c.min-few.ensures _ _ _ _ _ l.invariant.1 c.word_of.ensures c.skip-at.ensures,
     )
 
 pub shape_of-out : goal.shape_of-out

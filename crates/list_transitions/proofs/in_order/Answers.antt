@@ -1,24 +1,17 @@
--- A record by its tag.
-use Rattle.list_transitions.proofs.Tags.{tags}
+use Rattle.list_transitions.proofs.Values.{orders}
 use Rattle.list_transitions.proofs.in_order.Goals as goal
 
-pub returns-then-tag-eq1 : goal.returns-then-tag-eq1
-returns-then-tag-eq1 c = search tags
+pub returns-in-Set : goal.returns-in-Set
+returns-in-Set c = search orders
 
-pub returns-then-tag-eq2 : goal.returns-then-tag-eq2
-returns-then-tag-eq2 c = search tags
+pub returns-in-NotSet : goal.returns-in-NotSet
+returns-in-NotSet c = search orders
 
-pub ordered-requires : goal.ordered-requires
-ordered-requires c = search tags
+pub returns-in-Atom : goal.returns-in-Atom
+returns-in-Atom c = search orders
 
-pub returns-then-tag-eq3 : goal.returns-then-tag-eq3
-returns-then-tag-eq3 c = search tags
+pub returns-in-Range : goal.returns-in-Range
+returns-in-Range c = search orders
 
-pub ordered-requires-then-tag-eq4 : goal.ordered-requires-then-tag-eq4
-ordered-requires-then-tag-eq4 c = search tags
-
-pub returns-then-tag-eq4 : goal.returns-then-tag-eq4
-returns-then-tag-eq4 c = search tags
-
-pub returns : goal.returns
-returns c = search tags
+pub returns-in-Wildcard : goal.returns-in-Wildcard
+returns-in-Wildcard c = search orders

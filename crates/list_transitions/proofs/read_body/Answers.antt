@@ -1,36 +1,16 @@
 -- The tag and the length are judged first, then the order.
-use Rattle.list_transitions.proofs.Records.{judging}
+use mathlib.Core.Path.{refl}
+use Rattle.list_transitions.proofs.Records.{body_field, body_order, body_good}
 use Rattle.list_transitions.proofs.read_body.Goals as goal
 
-pub bounds-list-at : goal.bounds-list-at
-bounds-list-at c = search judging
+pub returns-in_default : goal.returns-in_default
+returns-in_default c = body_field _ c.args.at c.args.size _ c.requires refl c.in_default.ensures c.refuse.ensures
 
-pub shape-requires : goal.shape-requires
-shape-requires c = search judging
-
-pub overflow_add-at : goal.overflow_add-at
-overflow_add-at c = search judging
-
-pub in_order-requires : goal.in_order-requires
-in_order-requires c = search judging
-
-pub overflow_add-result : goal.overflow_add-result
-overflow_add-result c = search judging
-
-pub overflow_add-result-then-in_order : goal.overflow_add-result-then-in_order
-overflow_add-result-then-in_order c = search judging
-
-pub overflow_add-at-then-in_order : goal.overflow_add-at-then-in_order
-overflow_add-at-then-in_order c = search judging
-
-pub count-requires : goal.count-requires
-count-requires c = search judging
-
-pub returns-then-in_order : goal.returns-then-in_order
-returns-then-in_order c = search judging
-
-pub returns-then-shape : goal.returns-then-shape
-returns-then-shape c = search judging
+pub returns-then-not-in_order : goal.returns-then-not-in_order
+returns-then-not-in_order c =
+    body_order _ c.args.at c.args.size _ c.requires refl c.in-Some.ensures c.in_order.ensures c.if-not-in_order.true
+    c.refuse-then-not-in_order.ensures
 
 pub returns : goal.returns
-returns c = search judging
+returns c =
+    body_good _ c.args.at c.args.size _ c.requires refl c.in-Some.ensures c.in_order.ensures c.if-not-in_order.false c.count.ensures

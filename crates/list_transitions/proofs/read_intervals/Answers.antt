@@ -1,36 +1,18 @@
 -- The buffer is cleared, and filled where the list is accepted.
-use Rattle.list_transitions.proofs.Gathers.{reading}
+use Rattle.std.proofs.lemmas.Result.{err_from_is_err_and}
+use Rattle.list_transitions.proofs.Gathers.{reading, read_is}
 use Rattle.list_transitions.proofs.read_intervals.Goals as goal
-
-pub clear-requires : goal.clear-requires
-clear-requires c = search reading
-
-pub shape_of-out-then-out-lt-ENDS : goal.shape_of-out-then-out-lt-ENDS
-shape_of-out-then-out-lt-ENDS c = search reading
 
 pub returns-then-out-lt-ENDS : goal.returns-then-out-lt-ENDS
 returns-then-out-lt-ENDS c = search reading
 
-pub read_transitions-requires : goal.read_transitions-requires
-read_transitions-requires c = search reading
+pub gather-requires-clause-good : goal.gather-requires-clause-good
+gather-requires-clause-good c = read_is _ _ c.in_ok-answer.ensures
 
-pub enum_known-count : goal.enum_known-count
-enum_known-count c = search reading
+pub returns-in_err-answer : goal.returns-in_err-answer
+returns-in_err-answer c =
+    let p = err_from_is_err_and c.from_residual.result c.from_residual.ensures.1 in
+    rw (p.1, p.2) (search (reading, c.in_err-answer.ensures))
 
-pub gather-requires : goal.gather-requires
-gather-requires c = search reading
-
-pub enum_known-r : goal.enum_known-r
-enum_known-r c = search reading
-
-pub shape_of-out-in-Read : goal.shape_of-out-in-Read
-shape_of-out-in-Read c = search reading
-
-pub returns-in-Read : goal.returns-in-Read
-returns-in-Read c = search reading
-
-pub shape_of-out-in-Refused : goal.shape_of-out-in-Refused
-shape_of-out-in-Refused c = search reading
-
-pub returns-in-Refused : goal.returns-in-Refused
-returns-in-Refused c = search reading
+pub returns : goal.returns
+returns c = search (reading, c.in_ok-answer.ensures)

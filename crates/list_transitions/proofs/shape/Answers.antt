@@ -1,28 +1,27 @@
--- Each answer is the case that the tests on the way say.
 use Rattle.list_transitions.specs.Bytes.{shape_of}
 use Rattle.list_transitions.proofs.Pairs.{cases}
 use Rattle.list_transitions.proofs.shape.Goals as goal
 
-pub returns-then-tag-eq1 : goal.returns-then-tag-eq1
+pub returns-in-1 : goal.returns-in-1
 unfolding shape_of
-returns-then-tag-eq1 c = search cases
+returns-in-1 c = search cases
 
-pub returns-then-tag-eq2 : goal.returns-then-tag-eq2
+pub returns-in-2 : goal.returns-in-2
 unfolding shape_of
-returns-then-tag-eq2 c = search cases
+returns-in-2 c = search cases
 
-pub returns-then-tag-eq3 : goal.returns-then-tag-eq3
+pub returns-in-3 : goal.returns-in-3
 unfolding shape_of
-returns-then-tag-eq3 c = search cases
+returns-in-3 c = search cases
 
-pub returns-then-tag-eq4 : goal.returns-then-tag-eq4
+pub returns-in-4 : goal.returns-in-4
 unfolding shape_of
-returns-then-tag-eq4 c = search cases
+returns-in-4 c = search cases
 
-pub returns-then-tag-eq5 : goal.returns-then-tag-eq5
+pub returns-in-5 : goal.returns-in-5
 unfolding shape_of
-returns-then-tag-eq5 c = search cases
+returns-in-5 c = search cases
 
-pub returns : goal.returns
+pub returns-in_default : goal.returns-in_default
 unfolding shape_of
-returns c = search cases
+returns-in_default c = search cases

@@ -1,38 +1,29 @@
-use Rattle.list_transitions.proofs.Gathers.{gathering}
+use mathlib.Core.Path.{refl}
+use Rattle.list_transitions.proofs.Gathers.{gathering, gather_some, gather_says, gather_room, gather_again}
 use Rattle.list_transitions.proofs.intervals.gather.Goals as goal
 
 pub loop-at-init : goal.loop-at-init
 loop-at-init c = search gathering
 
-pub bounds-list-at : goal.bounds-list-at
-bounds-list-at c = search gathering
+pub size_at-requires : goal.size_at-requires
+size_at-requires c = search gathering
 
-pub overflow_add-at : goal.overflow_add-at
-overflow_add-at c = search gathering
+pub slice_bounds-read_value-end : goal.slice_bounds-read_value-end
+slice_bounds-read_value-end c = search gathering
 
-pub size_at-size-requires : goal.size_at-size-requires
-size_at-size-requires c = search gathering
-
-pub overflow_add-at-in-loop-at : goal.overflow_add-at-in-loop-at
-overflow_add-at-in-loop-at c = search gathering
+pub unwrap-value-requires : goal.unwrap-value-requires
+unwrap-value-requires c = gather_some _ _ _ _ _ c.loop-at.invariant c.loop-at-test.true c.size_at.ensures.0 refl _ c.read_value.ensures
 
 pub put_ends-n-requires : goal.put_ends-n-requires
-put_ends-n-requires c = search gathering
-
-pub overflow_add-at-in-loop-at-2 : goal.overflow_add-at-in-loop-at-2
-overflow_add-at-in-loop-at-2 c = search gathering
-
-pub overflow_add-at-in-loop-at-3 : goal.overflow_add-at-in-loop-at-3
-overflow_add-at-in-loop-at-3 c = search gathering
-
-pub loop-at-smaller : goal.loop-at-smaller
-loop-at-smaller c = search gathering
+put_ends-n-requires c =
+    gather_room _ _ _ _ _ c.loop-at.invariant c.loop-at-test.true c.size_at.ensures.0 refl
+    (gather_says _ _ _ _ _ c.loop-at.invariant c.loop-at-test.true c.size_at.ensures.0 refl _ c.read_value.ensures c.unwrap-value.ensures)
 
 pub loop-at-preserved : goal.loop-at-preserved
-loop-at-preserved c = search gathering
-
-pub shape_of-out : goal.shape_of-out
-shape_of-out c = search gathering
+loop-at-preserved c =
+    gather_again _ _ _ _ _ c.loop-at.invariant c.loop-at-test.true c.size_at.ensures.0 refl
+    (gather_says _ _ _ _ _ c.loop-at.invariant c.loop-at-test.true c.size_at.ensures.0 refl _ c.read_value.ensures c.unwrap-value.ensures)
+    c.put_ends-n.ensures
 
 pub returns : goal.returns
 returns c = search gathering
