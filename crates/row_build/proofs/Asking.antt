@@ -8,7 +8,7 @@ use native.Mathlib.Omega.{arith}
 use borrow.Author.Rules.{rules}
 use borrow.Author.Tests.{eqb-true, lt-ltb, le-ltb, ltb-false}
 use lib.Dec.{eqb, ltb}
-use Rattle.std.specs.Prelude.{Option, Some, None}
+use Rattle.std.specs.Prelude.{Option, Some, None, Result, Ok, Err}
 use lib.ListN.{length}
 use Rattle.refusal.specs.declared.Refusal.{Refusal}
 use Rattle.refusal.specs.Said.{refusal_at, ROOM}
@@ -21,7 +21,6 @@ use Rattle.list_segments.specs.Segments.{cut_all, cuts_of, starts}
 use Rattle.list_segments.specs.Answer.{parse_for, segments_in}
 use Rattle.list_segments.proofs.Answers.{few_segments}
 use Rattle.list_distinct.specs.declared.Places.{Places}
-use Rattle.list_distinct.specs.declared.Places.TheVariants.{Found, Refused}
 use Rattle.list_masks.specs.Masks.{distinct_of}
 use Rattle.list_masks.specs.Answer.{parse_masks, parse_distinct, masks_in}
 use Rattle.list_distinct.specs.Answer.{parse_places, found_in, Placed}
@@ -30,19 +29,6 @@ use Rattle.row_build.specs.Answer.{too_short, refused_by, with_rows}
 use Rattle.row_build.specs.Asked.{Zeroed, Asked}
 
 -- The buffers for rows
-
-module _ (a w e : ℕ) where
-  pub ascii_short : a < 128 → true ≡ too_short a w e
-  ascii_short l = rw (lt-ltb a 128 l)
-
-  module _ (k : 128 ≤ a) where
-    pub wide_short : w < 6144 → true ≡ too_short a w e
-    wide_short l = rw (le-ltb a 128 k, lt-ltb w 6144 l)
-
-    pub escape_short : {r : Bool} → 6144 ≤ w → r ≡ ltb e 6144 → r ≡ too_short a w e
-    escape_short m i = rw (le-ltb a 128 k, le-ltb w 6144 m) i
-
-pub ruleset shortening = (rules, ascii_short, wide_short, escape_short)
 
 pub long : (a w e : ℕ) → too_short a w e ≡ false → (128 ≤ a) × (6144 ≤ w) × (6144 ≤ e)
 long a w e h = go (ltb a 128) refl (ltb w 6144) refl (ltb e 6144) refl h
@@ -95,29 +81,29 @@ few_places s n d p w =
     few_pick (ltb p 2048) _ (few_pick (ltb d 8192) _ (few_pick (ltb n 8192) _ (few_pick (ltb s 4096) (parse w) (few_segments w))))
 
 module _ (t c : ℕ) (short : Bool) {s n d p : ℕ} {ns ms ds ps : List ℕ} where
-  none-asked : (y : Parsed) {r : Refusal} → Few y → Placed (Refused r) s ns n ms d ds p ps y → Asked t c short (Refused r) s ns n ms d ds p ps y
+  none-asked : (y : Parsed) {r : Refusal} → Few y → Placed (Err r) s ns n ms d ds p ps y → Asked t c short (Err r) s ns n ms d ds p ps y
   unfolding with_rows found_in
   none-asked (refused k q) f h = record { says = h.says; low_high = h.low_high; each = h.each; once = h.once; leaves = h.leaves; few = f }
   none-asked (parsed ts) f h = let says = h.says in let z : ◌≡◌ {A = ℕ} 0 1 = cc in absurd (omega arith)
 
-  module _ {a m k : ℕ} where
-    rows_by : (y : Parsed) {j : Option ℕ} → Placed (Found a m k) s ns n ms d ds p ps y → j ≡ refusal_of (differs m t c) short → with_rows t c short y ≡ refused_by j y
+  module _ {pl : Places} where
+    rows_by : (y : Parsed) {j : Option ℕ} → Placed (Ok pl) s ns n ms d ds p ps y → j ≡ refusal_of (differs pl.masks t c) short → with_rows t c short y ≡ refused_by j y
     unfolding with_rows found_in
     rows_by (refused i q) h e = let says = h.says in let z : ◌≡◌ {A = ℕ} 0 1 = cc in absurd (omega arith)
     rows_by (parsed ts) h e =
         let says = h.says in
-        let i : m ≡ length (distinct_of ts) = cc in
+        let i : pl.masks ≡ length (distinct_of ts) = cc in
         ap (λ (x : ℕ). refused_by (refusal_of (differs x t c) short) (parsed ts)) (sym i) ∙ ap (λ (o : Option ℕ). refused_by o (parsed ts)) (sym e)
 
-  module _ {got : Places} (y : Parsed) (h : Placed got s ns n ms d ds p ps y) (f : length (starts (cuts_of (accepted y))) ≤ 2047) where
-    said_as : {other : Places} → got ≡ other → Placed other s ns n ms d ds p ps y
-    said_as i = subst (λ (o : Places). Placed o s ns n ms d ds p ps y) i h
+  module _ {got : Result Places Refusal} (y : Parsed) (h : Placed got s ns n ms d ds p ps y) (f : length (starts (cuts_of (accepted y))) ≤ 2047) where
+    said_as : {other : Result Places Refusal} → got ≡ other → Placed other s ns n ms d ds p ps y
+    said_as i = subst (λ (o : Result Places Refusal). Placed o s ns n ms d ds p ps y) i h
 
-    pub asked-refused : {r : Refusal} → got ≡ Refused r → Asked t c short (Refused r) s ns n ms d ds p ps y
+    pub asked-refused : {r : Refusal} → got ≡ Err r → Asked t c short (Err r) s ns n ms d ds p ps y
     asked-refused i = none-asked y f (said_as i)
 
-    module _ {a m k : ℕ} {j : Option ℕ} (i : got ≡ Found a m k) (e : j ≡ refusal_of (differs m t c) short) where
-      pub asked-found : j ≡ None → Asked t c short (Found a m k) s ns n ms d ds p ps y
+    module _ {pl : Places} {j : Option ℕ} (i : got ≡ Ok pl) (e : j ≡ refusal_of (differs pl.masks t c) short) where
+      pub asked-found : j ≡ None → Asked t c short (Ok pl) s ns n ms d ds p ps y
       asked-found o =
           let same : with_rows t c short y ≡ y = rows_by y (said_as i) e ∙ ap (λ (o : Option ℕ). refused_by o y) o in
           let g = said_as i in
@@ -131,7 +117,7 @@ module _ (t c : ℕ) (short : Bool) {s n d p : ℕ} {ns ms ds ps : List ℕ} whe
           }
 
       pub asked-none : {q : ℕ} {ns' ms' ds' : List ℕ} → j ≡ Some q → Zeroed ns ns' ms ms' ds ds' → length ns ≡ s → length ms ≡ n → length ds ≡ d →
-          Asked t c short (Refused (refusal_at q 0)) s ns' n ms' d ds' p ps y
+          Asked t c short (Err (refusal_at q 0)) s ns' n ms' d ds' p ps y
       unfolding found_in segments_in masks_in
       asked-none {q} o z l l' l'' =
           let none : with_rows t c short y ≡ refused q 0 = rows_by y (said_as i) e ∙ ap (λ (o : Option ℕ). refused_by o y) o in

@@ -22,7 +22,6 @@ use Rattle.list_segments.specs.Segments.{Asc, cuts_of, starts, starts_from, segm
 use Rattle.list_segments.specs.Answer.{segments_in}
 use Rattle.list_segments.proofs.Answers.{length-starts}
 use Rattle.list_distinct.specs.declared.Places.{Places}
-use Rattle.list_distinct.specs.declared.Places.TheVariants as place
 use Rattle.list_masks.specs.Masks.{mask_of, masks_at, matrix, flat, is_zero, distinct_of, place_of, places_in, places_of}
 use Rattle.list_masks.specs.Answer.{masks_in}
 use Rattle.list_distinct.specs.Answer.{told, parse_places, found_in, placed_in}
@@ -135,9 +134,12 @@ record Parts (t c : ℕ) (short : Bool) (s n d : ℕ) (count : ℕ) (ns ms ds : 
 zeros-length : (n : ℕ) {l : List ℕ} → l ≡ zeros n → length l ≡ n
 zeros-length n e = ap length e ∙ length-replicate n 0
 
-module _ {t c : ℕ} {short : Bool} {s n d p : ℕ} {ns ms ds ps : List ℕ} {y : Parsed} {got : Places} (h : Asked t c short got s ns n ms d ds p ps y)
-    {count m k : ℕ}
-    (i : got ≡ place.Found count m k) where
+module _ {t c : ℕ} {short : Bool} {s n d p : ℕ} {ns ms ds ps : List ℕ} {y : Parsed} {got : Result Places Refusal} (h : Asked t c short got s ns n ms d ds p ps y)
+    {pl : Places}
+    (i : got ≡ Ok pl) where
+  abbrev count : ℕ
+  count = pl.segments
+
   parts_of : (x : Parsed) → with_rows t c short y ≡ x → Parts t c short s n d count ns ms ds p ps y
   unfolding found_in segments_in masks_in placed_in accepted
   parts_of (parsed ts) e =
@@ -221,7 +223,7 @@ module _ {t c : ℕ} {short : Bool} {s n d p : ℕ} {ns ms ds ps : List ℕ} {y 
 stands : (n : ℕ) {xs ys old new : List ℕ} → new ≡ lay 0 xs old → old ≡ zeros n → xs ≡ ys → length xs ≤ n → new ≡ padded n ys
 stands n {xs} {ys} e o s h = e ∙ ap (lay 0 xs) o ∙ lay-zeros n xs h ∙ ap (padded n) s
 
-none : (l : Lent) (targets conts : List ℕ) (x : Parsed) (r : Refusal) {ns ms ds ai ws es : List ℕ} → told (place.Refused r) ≡ found_in x →
+none : (l : Lent) (targets conts : List ℕ) (x : Parsed) (r : Refusal) {ns ms ds ai ws es : List ℕ} → told (Err r) ≡ found_in x →
     ns ≡ segments_in l.segments x → ms ≡ masks_in matrix l.masks x → ds ≡ masks_in distinct_of l.distinct x →
     ai ≡ zeros l.ascii → ws ≡ zeros l.wide → es ≡ zeros l.escape → Builds (Err r) l ns ms ds ai ws es targets conts x
 unfolding found_in counted ascii_in wide_in escape_in
@@ -230,11 +232,11 @@ none l targets conts (refused k p) r says q m o a b c = record { says = says; lo
 
 -- The call: the buffers for rows were cleared first
 
-pub prepared : (w : List ℕ) (t c : ℕ) {short : Bool} {r : Places} (sg mk ds : List ℕ) {sg₁ mk₁ ds₁ ps ai ai₁ ws ws₁ es es₁ : List ℕ} {p : ℕ} →
+pub prepared : (w : List ℕ) (t c : ℕ) {short : Bool} {r : Result Places Refusal} (sg mk ds : List ℕ) {sg₁ mk₁ ds₁ ps ai ai₁ ws ws₁ es es₁ : List ℕ} {p : ℕ} →
     Cleared short ai ai₁ ws ws₁ es es₁ →
     Asked t c short r (length sg) sg₁ (length mk) mk₁ (length ds) ds₁ p ps (parse_places (length sg) (length mk) (length ds) p w) →
     Prepared w t c r sg sg₁ mk mk₁ ds ds₁ p ps ai ai₁ ws ws₁ es es₁
-prepared w t c {short} sg mk ds z h = record { short = short; cleared = z; asked = h; next = record { found = λ count m k i. ready h i z } }
+prepared w t c {short} sg mk ds z h = record { short = short; cleared = z; asked = h; next = record { found = λ pl i. ready h i z } }
 
 pub ruleset preparing = (rules, prepared)
 
@@ -278,11 +280,11 @@ module _ (sg ps : List ℕ) (count : ℕ) where
         escapes = f.escapes ∙ ap (λ (rs : Row). lay 0 (numbers rs) es) (row true);
       }
 
-pub build_ready : {got : Places} {count m k : ℕ} {sg ps ai ws es : List ℕ} → got ≡ place.Found count m k → Fillable got sg ps ai ws es →
-    Ready (take (2 * count) sg) (take count ps) (length (take count ps)) ai ws es
-build_ready {count = count} {m = m} {k = k} {sg = sg} {ps = ps} i h = ready_taken sg ps count (h.found count m k i)
+pub build_ready : {got : Result Places Refusal} {pl : Places} {sg ps ai ws es : List ℕ} → got ≡ Ok pl → Fillable got sg ps ai ws es →
+    Ready (take (2 * pl.segments) sg) (take pl.segments ps) (length (take pl.segments ps)) ai ws es
+build_ready {pl = pl} {sg = sg} {ps = ps} i h = ready_taken sg ps pl.segments (h.found pl i)
 
-module _ (w targets conts sg mk ds ai ws es : List ℕ) {got : Places} {sg₁ mk₁ ds₁ ps ai₁ ws₁ es₁ : List ℕ}
+module _ (w targets conts sg mk ds ai ws es : List ℕ) {got : Result Places Refusal} {sg₁ mk₁ ds₁ ps ai₁ ws₁ es₁ : List ℕ}
     (g : Prepared w (length targets) (length conts) got sg sg₁ mk mk₁ ds ds₁ 2048 ps ai ai₁ ws ws₁ es es₁) where
   abbrev short : Bool
   short = g.short
@@ -306,14 +308,17 @@ module _ (w targets conts sg mk ds ai ws es : List ℕ) {got : Places} {sg₁ mk
   x_is : with_rows (length targets) (length conts) short y ≡ x
   x_is = ap₂ (with_rows (length targets) (length conts)) z.says (roomy_places (length sg) (length mk) (length ds) w)
 
-  pub build_refused : {r : Refusal} → got ≡ place.Refused r →
+  pub build_refused : {r : Refusal} → got ≡ Err r →
       Builds (Err r) (lent sg mk ds ai ws es) sg₁ mk₁ ds₁ ai₁ ws₁ es₁ targets conts (parse_rows (lent sg mk ds ai ws es) w targets conts)
   build_refused {r} i =
       none l targets conts x r (ap told (sym i) ∙ h.says ∙ ap found_in x_is) (h.low_high ∙ ap (segments_in (length sg)) x_is)
       (h.each ∙ ap (masks_in matrix (length mk)) x_is)
       (h.once ∙ ap (masks_in distinct_of (length ds)) x_is) z.empty.first z.empty.second z.empty.third
 
-  module _ {c m k : ℕ} (i : got ≡ place.Found c m k) where
+  module _ {pl : Places} (i : got ≡ Ok pl) where
+    abbrev c : ℕ
+    c = pl.segments
+
     p : Parts (length targets) (length conts) short (length sg) (length mk) (length ds) c sg₁ mk₁ ds₁ 2048 ps y
     p = parts h i
 

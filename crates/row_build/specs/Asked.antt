@@ -1,11 +1,11 @@
 -- What the row call does before there are rows: buffers that are cleared, and a list whose masks have their places, unless it is refused. Assumes nothing.
-use Rattle.std.specs.Prelude.{ℕ, ◌≤◌, ◌≡◌, Bool, List, length}
+use Rattle.std.specs.Prelude.{ℕ, ◌≤◌, ◌≡◌, Bool, List, length, Result, Ok}
+use Rattle.refusal.specs.declared.Refusal.{Refusal}
 use Rattle.buffer.specs.Over.{zeros}
 use Rattle.list_transitions.specs.Read.{Parsed, accepted}
 use Rattle.list_segments.specs.Segments.{cuts_of, starts}
 use Rattle.list_segments.specs.Answer.{segments_in}
 use Rattle.list_distinct.specs.declared.Places.{Places}
-use Rattle.list_distinct.specs.declared.Places.TheVariants.{Found}
 use Rattle.list_masks.specs.Masks.{matrix, distinct_of}
 use Rattle.list_masks.specs.Answer.{masks_in}
 use Rattle.list_distinct.specs.Answer.{told, parse_places, found_in, placed_in}
@@ -25,7 +25,7 @@ pub record Cleared (short : Bool) (ascii ascii' wide wide' escape escape' : List
 
 -- the segments, masks and distinct masks of the list y stand, unless it is refused or no rows can be made for so many targets and continuations, and then all
 -- three are zeros; and the places of its masks stand. No list has more than 2,047 segments
-pub record Asked (t c : ℕ) (short : Bool) (r : Places) (s : ℕ) (segments : List ℕ) (n : ℕ) (masks : List ℕ) (d : ℕ) (distinct : List ℕ) (p : ℕ)
+pub record Asked (t c : ℕ) (short : Bool) (r : Result Places Refusal) (s : ℕ) (segments : List ℕ) (n : ℕ) (masks : List ℕ) (d : ℕ) (distinct : List ℕ) (p : ℕ)
     (places : List ℕ) (y : Parsed) : Type 0 where
   pub says : told r ≡ found_in (with_rows t c short y)
   pub low_high : segments ≡ segments_in s (with_rows t c short y)
@@ -35,11 +35,11 @@ pub record Asked (t c : ℕ) (short : Bool) (r : Places) (s : ℕ) (segments : L
   pub few : length (starts (cuts_of (accepted y))) ≤ 2047
 
 -- where the list has its places, rows can be made
-pub record Fillable (r : Places) (segments places ascii wide escape : List ℕ) : Type 0 where
-  pub found : (count m k : ℕ) → r ≡ Found count m k → Ready segments places count ascii wide escape
+pub record Fillable (r : Result Places Refusal) (segments places ascii wide escape : List ℕ) : Type 0 where
+  pub found : (f : Places) → r ≡ Ok f → Ready segments places f.segments ascii wide escape
 
 -- all of it: the buffers for rows are cleared, and the list has its places, unless it is refused
-pub record Prepared (w : List ℕ) (t c : ℕ) (r : Places) (segments segments' masks masks' distinct distinct' : List ℕ) (p : ℕ)
+pub record Prepared (w : List ℕ) (t c : ℕ) (r : Result Places Refusal) (segments segments' masks masks' distinct distinct' : List ℕ) (p : ℕ)
     (places ascii ascii' wide wide' escape escape' : List ℕ) : Type 0 where
   pub short : Bool
   pub cleared : Cleared short ascii ascii' wide wide' escape escape'

@@ -218,35 +218,23 @@ fn place_for_rows(
     masks: &mut [u64],
     distinct: &mut [u64],
     places: &mut [u32],
-) -> Places
+) -> Result<Places, Refusal>
     ensures { Asked targets continuations short result (length segments.old) segments.new
         (length masks.old) masks.new (length distinct.old) distinct.new
         (length places.old) places.new
         (parse_places (length segments.old) (length masks.old) (length distinct.old)
         (length places.old) list.now) }
 {
-    match list_distinct::place_masks(list, segments, masks, distinct, places) {
-        Places::Found {
-            segments: count,
-            masks: d,
-            words,
-        } => {
-            if let Some(number) = row_goals::refusal_for(d, targets, continuations, short) {
-                clear_masks(segments, masks, distinct);
-                return Places::Refused(Refusal {
-                    number,
-                    item: 0,
-                    place: 0,
-                });
-            }
-            Places::Found {
-                segments: count,
-                masks: d,
-                words,
-            }
-        }
-        Places::Refused(r) => Places::Refused(r),
+    let found = list_distinct::place_masks(list, segments, masks, distinct, places)?;
+    if let Some(number) = row_goals::refusal_for(found.masks, targets, continuations, short) {
+        clear_masks(segments, masks, distinct);
+        return Err(Refusal {
+            number,
+            item: 0,
+            place: 0,
+        });
     }
+    Ok(found)
 }
 
 // The same, behind the buffers for rows, which are cleared first.
@@ -261,7 +249,7 @@ fn prepare_rows(
     ascii: &mut [u16],
     wide: &mut [u32],
     escape: &mut [u32],
-) -> Places
+) -> Result<Places, Refusal>
     ensures { Prepared list.now targets continuations result segments.old segments.new
         masks.old masks.new distinct.old distinct.new (length places.old)
         places.new ascii.old ascii.new wide.old wide.new escape.old
@@ -302,7 +290,7 @@ pub fn build_rows(
         list.now targets.now continuations.now) }
 {
     let mut places = [0u32; 2048];
-    match prepare_rows(
+    let found = prepare_rows(
         list,
         targets.len(),
         continuations.len(),
@@ -313,20 +301,13 @@ pub fn build_rows(
         ascii,
         wide,
         escape,
-    ) {
-        Places::Found {
-            segments: count,
-            masks: _,
-            words: _,
-        } => {
-            let placed = Segments {
-                points: &segments[..2 * count],
-                places: &places[..count],
-                targets,
-                continuations,
-            };
-            Ok(placed.fill_rows(ascii, wide, escape))
-        }
-        Places::Refused(r) => Err(r),
-    }
+    )?;
+    let count = found.segments;
+    let placed = Segments {
+        points: &segments[..2 * count],
+        places: &places[..count],
+        targets,
+        continuations,
+    };
+    Ok(placed.fill_rows(ascii, wide, escape))
 }
