@@ -5,7 +5,7 @@
 //     ./run plyscan < crates/plyscan/stdin
 #![tactic(auto)]
 
-use lexer_dfa::{Answered, AsciiRunScan, Refusal, Run, RunWords, Scanned};
+use lexer_dfa::{AsciiRun, AsciiRunScan, Refusal, RunWords};
 use replay_io::input::read_full;
 use std::io::{Result, Stdin, Stdout};
 
@@ -51,10 +51,10 @@ fn print_scan(out: Stdout, scan: AsciiRunScan) -> Result<()> {
     println!(out; " ({bytes} {many}, {ended})")
 }
 
-fn scan_line(out: Stdout, run: Run, line: &[u8]) -> Result<()> {
+fn scan_line(out: Stdout, run: AsciiRun, line: &[u8]) -> Result<()> {
     match lexer_dfa::scan_length(run, line) {
-        Scanned::NoRun => println!(out; "no run"),
-        Scanned::Skipped(scan) => {
+        None => println!(out; "no run"),
+        Some(scan) => {
             if scan.bytes == 0 {
                 return println!(out; "no digits");
             }
@@ -65,7 +65,7 @@ fn scan_line(out: Stdout, run: Run, line: &[u8]) -> Result<()> {
 }
 
 // Each line by itself, so that a run ends where its line does. The last line may lack its newline; behind that of the last line stands none.
-fn scan_lines(out: Stdout, run: Run, text: &[u8]) -> Result<()> {
+fn scan_lines(out: Stdout, run: AsciiRun, text: &[u8]) -> Result<()> {
     for line in text.split_inclusive(|byte| *byte == b'\n') {
         scan_line(out, run, line.strip_suffix(b"\n").unwrap_or(line))?;
     }
@@ -73,16 +73,12 @@ fn scan_lines(out: Stdout, run: Run, text: &[u8]) -> Result<()> {
 }
 
 fn scan_list(out: Stdout, text: &[u8]) -> Result<()> {
-    let classified = lexer_dfa::classify(&number_row(), NUMBER);
-    let answer = classified.answer;
-    match answer {
-        Answered::Ran(kind) => {
-            let ranges = classified.ranges;
-            let run = Run { kind, ranges };
+    match lexer_dfa::classify(&number_row(), NUMBER) {
+        Ok(run) => {
             print_words(out, lexer_dfa::write_serialized(run))?;
             scan_lines(out, run, text)
         }
-        Answered::Refused(refusal) => print_refusal(out, refusal),
+        Err(refusal) => print_refusal(out, refusal),
     }
 }
 

@@ -12,6 +12,8 @@ use Rattle.buffer.proofs.Overs.{over-front}
 use Rattle.refusal.specs.Said.{SHORT, LIMIT}
 use Rattle.replay_io.specs.Bytes.{PutWhole}
 use Rattle.replay_io.proofs.Putting.{numbers-many}
+use Rattle.std.specs.Prelude.{Result}
+use Rattle.refusal.specs.declared.Refusal.{Refusal}
 use Rattle.room_decode.specs.declared.Decoded.{Decoded}
 use Rattle.room_decode.specs.Decode.{decode_of, room_of}
 use Rattle.program_io.specs.Bytes.{words_in, refused, read_of, room_read}
@@ -29,7 +31,7 @@ unfolding words_in
 size bs = numbers-many 4 (length bs / 4) bs
 
 module _ (bs : List ℕ) (z : ℕ) where
-  pub over_limit : {r : Decoded} → r ≡ refused LIMIT 8192 → 8192 < length bs / 4 → r ≡ read_of bs z
+  pub over_limit : {r : Result Decoded Refusal} → r ≡ refused LIMIT 8192 → 8192 < length bs / 4 → r ≡ read_of bs z
   unfolding read_of
   over_limit e h = e ∙ (rw (size bs, lt-ltb _ _ h))
 
@@ -37,7 +39,7 @@ module _ (bs : List ℕ) (z : ℕ) where
   unfolding room_read
   limit_room e h = e ∙ (rw (size bs, lt-ltb _ _ h))
 
-  pub with_spare : {r : Decoded} → r ≡ refused SHORT (length bs / 4) → length bs / 4 ≤ 8192 → 0 < length bs % 4 → r ≡ read_of bs z
+  pub with_spare : {r : Result Decoded Refusal} → r ≡ refused SHORT (length bs / 4) → length bs / 4 ≤ 8192 → 0 < length bs % 4 → r ≡ read_of bs z
   unfolding read_of
   with_spare e h k = e ∙ (rw (size bs, le-ltb _ _ h, lt-ltb _ _ k))
 
@@ -53,7 +55,7 @@ module _ (bs : List ℕ) (z : ℕ) where
         let e : min (length bs / 4) (length old) ≡ length bs / 4 = omega arith in
         front (rw e at p) (omega (arith, numbers-many 4 (length bs / 4) bs))
 
-    pub all_whole : {r : Decoded} → PutWhole 4 bs old n new → r ≡ decode_of (take n new) z → length bs / 4 ≤ 8192 → length old ≡ 8192 →
+    pub all_whole : {r : Result Decoded Refusal} → PutWhole 4 bs old n new → r ≡ decode_of (take n new) z → length bs / 4 ≤ 8192 → length old ≡ 8192 →
         length bs % 4 ≤ 0 → r ≡ read_of bs z
     unfolding read_of
     all_whole p e h k l = let w : take n new ≡ words_in bs = whole_words p h k in e ∙ (rw (w, size bs, le-ltb _ _ h, le-ltb _ _ l))

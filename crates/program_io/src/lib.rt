@@ -11,10 +11,10 @@ use refusal::{LIMIT, MAX_WORDS, Refusal, SHORT};
 use replay_io::read;
 use room_decode::Decoded;
 
-fn refused(number: u32, place: usize) -> Decoded
+fn refused(number: u32, place: usize) -> Result<Decoded, Refusal>
     ensures { result ≡ refused number place }
 {
-    Decoded::Refused(Refusal {
+    Err(Refusal {
         number,
         item: 0,
         place,
@@ -22,7 +22,7 @@ fn refused(number: u32, place: usize) -> Decoded
 }
 
 // The table whose words these bytes are: LIMIT, then SHORT for spare bytes, then what decoding answers and leaves in the room.
-pub fn read_table(bytes: &[u8], room: &mut [u32]) -> Decoded
+pub fn read_table(bytes: &[u8], room: &mut [u32]) -> Result<Decoded, Refusal>
     ensures value { result ≡ read_of bytes.now (length room.old) }
     ensures room_after { room.new ≡ room_read bytes.now (length room.old) }
 {

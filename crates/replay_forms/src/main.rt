@@ -14,7 +14,6 @@ ghost use Rattle.look_row.specs.Ranges.{target_in};
 use look_row::WideRange;
 use replay_io::{input, read};
 use std::io::{Result, Stdout};
-use word_serialized::Opening;
 
 const RECORD: usize = 46;
 
@@ -97,8 +96,8 @@ fn print_falling(out: Stdout) -> Result<()> {
 // The refusal, 0 for none, and then the modes or the place.
 fn print_opening(out: Stdout, words: &[u32]) -> Result<()> {
     match word_serialized::read_opening(words) {
-        Opening::Modes(n) => println!(out; "0 refuses: modes {n}"),
-        Opening::Refused(r) => println!(out; "{} refuses: at {}", r.number, r.place),
+        Ok(n) => println!(out; "0 refuses: modes {n}"),
+        Err(r) => println!(out; "{} refuses: at {}", r.number, r.place),
     }
 }
 

@@ -1,17 +1,13 @@
 // The records about what is written into an output: how many numbers, and a check over all of the output.
-use buffer::Written;
-use refusal::MAX_WORDS;
+use refusal::{MAX_WORDS, Refusal};
 use replay_io::tally::Replayed;
 use replay_io::{check, read};
 
 // A refusal is a length that no output has.
 const REFUSED: usize = 65535;
 
-fn written(answer: Written) -> usize {
-    match answer {
-        Written::Numbers(n) => n,
-        Written::Refused(_) => REFUSED,
-    }
+fn written(answer: Result<usize, Refusal>) -> usize {
+    answer.unwrap_or(REFUSED)
 }
 
 fn write(room: &[u32], kind: u8, out: &mut [u32]) -> usize {

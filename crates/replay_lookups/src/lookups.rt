@@ -1,9 +1,9 @@
 // The records whose answer is a number, and those of a scan.
-use look_modes::Start;
-use look_scan::StateScan;
+use refusal::Refusal;
 use replay_io::read;
 use replay_io::tally::Replayed;
-use room_find::Answer;
+use room_find::Missing;
+use run_shape::AsciiRunScan;
 
 // The number of a record for no start, accept or continuation.
 const NONE: u32 = 4294967295;
@@ -11,21 +11,16 @@ const NONE: u32 = 4294967295;
 // A refusal is a number that no record has, so it differs from each.
 const REFUSED: u32 = 4294967294;
 
-fn start(answer: Start) -> u32 {
+fn start(answer: Result<Option<u16>, Missing>) -> u32 {
     match answer {
-        Start::At(state) => state as u32,
-        Start::Nowhere => NONE,
-        Start::NotTable => REFUSED,
+        Ok(start) => start.map_or(NONE, u32::from),
+        Err(_) => REFUSED,
     }
 }
 
 // NONE is the answer's own number for no accept and for no continuation.
-fn told(answer: Answer) -> u32 {
-    match answer {
-        Answer::Number(n) => n,
-        Answer::NoState => REFUSED,
-        Answer::NotTable => REFUSED,
-    }
+fn told(answer: Result<u32, Missing>) -> u32 {
+    answer.unwrap_or(REFUSED)
 }
 
 // What kinds 1 to 9 answer.
@@ -59,10 +54,10 @@ pub(crate) fn replay_number(room: &[u32], kind: u8, record: &[u8]) -> Replayed {
 }
 
 // Equal answers, and the part that the scan hands back is as long as the answer says. No record is of a refusal.
-fn same_scan(scan: StateScan, part: usize, recorded: &[u8]) -> bool {
+fn same_scan(scan: Result<Option<AsciiRunScan>, Refusal>, part: usize, recorded: &[u8]) -> bool {
     match scan {
-        StateScan::NoRun => (read::word(recorded, 0) == 1) & (part == 0),
-        StateScan::Skipped { bytes, found_exit } => {
+        Ok(None) => (read::word(recorded, 0) == 1) & (part == 0),
+        Ok(Some(AsciiRunScan { bytes, found_exit })) => {
             let exit = read::byte(recorded, 3);
             (read::byte(recorded, 0) == 2)
                 & (bytes == read::size(recorded, 1))
@@ -70,7 +65,7 @@ fn same_scan(scan: StateScan, part: usize, recorded: &[u8]) -> bool {
                 & (found_exit == (exit == 1))
                 & (exit < 2)
         }
-        StateScan::NoAnswer(_) => false,
+        Err(_) => false,
     }
 }
 

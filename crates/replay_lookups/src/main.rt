@@ -29,7 +29,6 @@ ghost use Rattle.std.specs.Prelude.{◌<◌, ◌≤◌, length, IfSome};
 use refusal::ROOM_NUMBERS;
 use replay_io::tally::{Counts, Replayed, Report};
 use replay_io::{input, read, tally};
-use room_decode::Decoded;
 use std::io::Result;
 
 const KINDS: [&str; 13] = [
@@ -84,10 +83,8 @@ fn replay_table(sample: &[u8], counts: &mut [Counts]) -> usize {
     let bytes = 4 * read::size(sample, 0);
     let table = program_io::read_table(read::part(sample, 2, bytes), &mut room);
     match table {
-        Decoded::Table { .. } => {
-            2 + bytes + replay(&room, read::after(sample, 2 + bytes), counts)
-        }
-        Decoded::Refused(_) => 0,
+        Ok(_) => 2 + bytes + replay(&room, read::after(sample, 2 + bytes), counts),
+        Err(_) => 0,
     }
 }
 

@@ -1,24 +1,24 @@
 // The record about decoding: a table's words are decoded into a room, and the answer and all of the room are compared.
-use refusal::ROOM_NUMBERS;
+use refusal::{ROOM_NUMBERS, Refusal};
 use replay_io::tally::Replayed;
 use replay_io::{check, read};
 use room_decode::Decoded;
 
 // A table has no refusal, and a refusal no table: what a record does not tell of is 0.
-fn same_answer(decoded: Decoded, recorded: &[u8]) -> bool {
+fn same_answer(decoded: Result<Decoded, Refusal>, recorded: &[u8]) -> bool {
     match decoded {
-        Decoded::Table {
+        Ok(Decoded {
             modes,
             states,
             words,
-        } => {
+        }) => {
             (read::half(recorded, 0) == 0)
                 & (read::byte(recorded, 2) == 0)
                 & (modes as usize == read::small(recorded, 3))
                 & (states as usize == read::small(recorded, 4))
                 & (words == read::small(recorded, 5))
         }
-        Decoded::Refused(refusal) => {
+        Err(refusal) => {
             (refusal.number as usize == read::small(recorded, 0))
                 & (refusal.place == read::small(recorded, 1))
                 & (refusal.item as usize == read::small(recorded, 2))

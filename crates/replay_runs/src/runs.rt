@@ -1,8 +1,9 @@
 // The records about runs: each has a proved function answer what the original was asked, and compares.
+use refusal::Refusal;
 use replay_io::read;
 use replay_io::tally::Replayed;
-use run_class::{AsciiRangeClass, RangeClass};
-use run_shape::{Answered, Run, RunAnswer, RunWords, Scanned};
+use run_class::AsciiRangeClass;
+use run_shape::{AsciiRun, AsciiRunScan, RunWords};
 
 // Where symbol k leads: its bit says whether it loops.
 fn target(bits: &[u8], k: usize, state: u16, other: u16) -> u16 {
@@ -25,14 +26,10 @@ fn same_words(ours: RunWords, n: usize, list: &[u8]) -> bool {
 }
 
 // Whether a run has just these n words. No record is of a refusal.
-fn same_run(run: RunAnswer, n: usize, list: &[u8]) -> bool {
-    let answer = run.answer;
+fn same_run(answer: Result<AsciiRun, Refusal>, n: usize, list: &[u8]) -> bool {
     match answer {
-        Answered::Ran(kind) => {
-            let ranges = run.ranges;
-            same_words(run_words::write_serialized(Run { kind, ranges }), n, list)
-        }
-        Answered::Refused(_) => false,
+        Ok(run) => same_words(run_words::write_serialized(run), n, list),
+        Err(_) => false,
     }
 }
 
@@ -47,15 +44,10 @@ pub(crate) fn replay_classify(record: &[u8]) -> Replayed {
     }
 }
 
-fn class_number(answer: RangeClass) -> u8 {
+fn class_number(answer: Result<AsciiRangeClass, Refusal>) -> u8 {
     match answer {
-        RangeClass::Class(class) => match class {
-            AsciiRangeClass::Whitespace => 0,
-            AsciiRangeClass::Number => 1,
-            AsciiRangeClass::Identifier => 2,
-            AsciiRangeClass::Other => 3,
-        },
-        RangeClass::Refused(_) => 255,
+        Ok(class) => class as u8,
+        Err(_) => 255,
     }
 }
 
@@ -72,10 +64,10 @@ pub(crate) fn replay_class(record: &[u8]) -> Replayed {
 }
 
 // Equal answers, and the part that the scan hands back is as long as the answer says.
-fn same_scanned(scanned: Scanned, part: usize, recorded: &[u8]) -> bool {
+fn same_scanned(scanned: Option<AsciiRunScan>, part: usize, recorded: &[u8]) -> bool {
     match scanned {
-        Scanned::NoRun => (read::word(recorded, 0) == 1) & (part == 0),
-        Scanned::Skipped(scan) => {
+        None => (read::word(recorded, 0) == 1) & (part == 0),
+        Some(scan) => {
             let exit = read::byte(recorded, 3);
             (read::byte(recorded, 0) == 2)
                 & (scan.bytes == read::size(recorded, 1))
@@ -86,16 +78,13 @@ fn same_scanned(scanned: Scanned, part: usize, recorded: &[u8]) -> bool {
     }
 }
 
-fn same_scan(run: RunAnswer, input: &[u8], recorded: &[u8]) -> bool {
-    let answer = run.answer;
+fn same_scan(answer: Result<AsciiRun, Refusal>, input: &[u8], recorded: &[u8]) -> bool {
     match answer {
-        Answered::Ran(kind) => {
-            let ranges = run.ranges;
-            let run = Run { kind, ranges };
+        Ok(run) => {
             let part = run_scan::scan(run, input);
             same_scanned(run_scan::scan_length(run, input), part.len(), recorded)
         }
-        Answered::Refused(_) => read::word(recorded, 0) == 0,
+        Err(_) => read::word(recorded, 0) == 0,
     }
 }
 

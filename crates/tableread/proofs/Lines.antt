@@ -9,7 +9,7 @@ use lib.Seq.{take_all}
 use Rattle.refusal.specs.declared.Refusal.{Refusal}
 use Rattle.refusal.specs.Lists.{each}
 use Rattle.room_decode.specs.declared.Decoded.{Decoded}
-use Rattle.room_decode.specs.declared.Decoded.TheVariants.{Table, Refused}
+use Rattle.std.specs.Prelude.{Result, Ok, Err}
 use Rattle.room_decode.specs.Decode.{said}
 use Rattle.program_io.specs.Decimal.{number}
 use Rattle.program_io.specs.Shown.{Shown}
@@ -69,12 +69,12 @@ module _ {k : ℕ} {d new : List ℕ} where
   all_put : (a b : ℕ) (xs : List ℕ) → length xs ≤ 3 → Shown (line_with (a ∷ b ∷ []) xs) 0 d k new → length d ≡ 66 → take k new ≡ line_with (a ∷ b ∷ []) xs
   all_put a b xs h p l = page_is p ∙ take_all (length d) (line_with (a ∷ b ∷ []) xs) (omega (arith, short a b xs h))
 
-  pub ok_line : {answer : Decoded} {m s w a b : ℕ} → Shown (line_with (111 ∷ 107 ∷ []) (a ∷ b ∷ w ∷ [])) 0 d k new → answer ≡ Table m s w →
+  pub ok_line : {answer : Result Decoded Refusal} {m s w a b : ℕ} → Shown (line_with (111 ∷ 107 ∷ []) (a ∷ b ∷ w ∷ [])) 0 d k new → answer ≡ Ok (record { modes = m; states = s; words = w }) →
       a ≡ m → b ≡ s → length d ≡ 66 → take k new ≡ line_of (said answer)
   unfolding line_of
   ok_line {m = m} {s} {w} p e f g l = rw e (all_put 111 107 (m ∷ s ∷ w ∷ []) (omega arith) (rw (f, g) at p) l)
 
-  pub no_line : {answer : Decoded} {r : Refusal} {a b : ℕ} → Shown (line_with (110 ∷ 111 ∷ []) (a ∷ r.place ∷ b ∷ [])) 0 d k new → answer ≡ Refused r →
+  pub no_line : {answer : Result Decoded Refusal} {r : Refusal} {a b : ℕ} → Shown (line_with (110 ∷ 111 ∷ []) (a ∷ r.place ∷ b ∷ [])) 0 d k new → answer ≡ Err r →
       a ≡ r.number → b ≡ r.item → length d ≡ 66 → take k new ≡ line_of (said answer)
   unfolding line_of
   no_line {r = r} p e f g l = rw e (all_put 110 111 (r.number ∷ r.place ∷ r.item ∷ []) (omega arith) (rw (f, g) at p) l)

@@ -7,6 +7,7 @@ ghost use Rattle.program_io.specs.Wrote.{Wrote};
 ghost use Rattle.tableread.specs.Line.{spaced, line_with, line_of};
 
 use program_io::Page;
+use refusal::Refusal;
 use room_decode::Decoded;
 
 // The most bytes that a line has are 66: three numbers of 20 digits, each behind a space, a word of two letters and the end.
@@ -40,16 +41,16 @@ fn line_with(word: &[u8], numbers: &[u64]) -> Line
 }
 
 // The line of an answer.
-pub(crate) fn line_of(answer: Decoded) -> Line
+pub(crate) fn line_of(answer: Result<Decoded, Refusal>) -> Line
     ensures { take result.at result.bytes ≡ line_of (said answer) }
 {
     match answer {
-        Decoded::Table {
+        Ok(Decoded {
             modes,
             states,
             words,
-        } => line_with(b"ok", &[u64::from(modes), u64::from(states), words as u64]),
-        Decoded::Refused(refusal) => line_with(
+        }) => line_with(b"ok", &[u64::from(modes), u64::from(states), words as u64]),
+        Err(refusal) => line_with(
             b"no",
             &[
                 u64::from(refusal.number),

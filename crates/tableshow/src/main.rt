@@ -15,7 +15,7 @@ mod text;
 ghost use Rattle.std.specs.Prelude.{◌≡◌, min, length, take};
 ghost use Rattle.tableshow.specs.Page.{state_text, mode_text, table_text, refusal_text};
 
-use refusal::ROOM_NUMBERS;
+use refusal::{ROOM_NUMBERS, Refusal};
 use replay_io::input::read_full;
 use room_decode::Decoded;
 use std::io::{Result, Stdout};
@@ -94,15 +94,15 @@ fn show_refusal(out: Stdout, number: u32, place: usize, page: &mut Page) -> Resu
 }
 
 // What decoding answered, part by part on one page.
-fn show(out: Stdout, room: &[u32], decoded: Decoded) -> Result<()> {
+fn show(out: Stdout, room: &[u32], decoded: std::result::Result<Decoded, Refusal>) -> Result<()> {
     let mut page = Page::new();
     match decoded {
-        Decoded::Table {
+        Ok(Decoded {
             modes,
             states,
             words,
-        } => show_table(out, room, modes, states, words, &mut page),
-        Decoded::Refused(refusal) => show_refusal(out, refusal.number, refusal.place, &mut page),
+        }) => show_table(out, room, modes, states, words, &mut page),
+        Err(refusal) => show_refusal(out, refusal.number, refusal.place, &mut page),
     }
 }
 

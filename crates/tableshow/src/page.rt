@@ -17,8 +17,8 @@ use crate::rows::{DEAD, ESCAPE, number_or, place_of, put_ascii, put_escapes, put
 use crate::text::put_form;
 use crate::{Page, forms};
 use look_accepts::AcceptRecord;
-use look_modes::Start;
 use refusal::{NONE, RUNS_START};
+use room_find::Missing;
 use rule_words::word_at;
 
 fn record_form(flag: u32, actions: u32) -> usize
@@ -46,49 +46,25 @@ fn bit(flag: bool) -> u32
     0
 }
 
-fn rule_of(found: AcceptRecord) -> u32
+fn rule_of(found: Result<AcceptRecord, Missing>) -> u32
     ensures { result ≡ part 0 (recorded.said found) }
 {
-    match found {
-        AcceptRecord::Record {
-            rule,
-            consumed_eof: _,
-            actions: _,
-        } => rule,
-        AcceptRecord::NoRecord => 0,
-        AcceptRecord::NotTable => 0,
-    }
+    found.map_or(0, |record| record.rule)
 }
 
-fn flag_of(found: AcceptRecord) -> bool
+fn flag_of(found: Result<AcceptRecord, Missing>) -> bool
     ensures { pick result 1 0 ≡ part 1 (recorded.said found) }
 {
-    match found {
-        AcceptRecord::Record {
-            rule: _,
-            consumed_eof,
-            actions: _,
-        } => consumed_eof,
-        AcceptRecord::NoRecord => false,
-        AcceptRecord::NotTable => false,
-    }
+    found.map_or(false, |record| record.consumed_eof)
 }
 
-fn actions_of(found: AcceptRecord) -> u32
+fn actions_of(found: Result<AcceptRecord, Missing>) -> u32
     ensures { result ≡ part 2 (recorded.said found) }
 {
-    match found {
-        AcceptRecord::Record {
-            rule: _,
-            consumed_eof: _,
-            actions,
-        } => actions,
-        AcceptRecord::NoRecord => 0,
-        AcceptRecord::NotTable => 0,
-    }
+    found.map_or(0, |record| record.actions)
 }
 
-fn put_said(accept: u32, found: AcceptRecord, page: &mut Page)
+fn put_said(accept: u32, found: Result<AcceptRecord, Missing>, page: &mut Page)
     ensures { Wrote (said_line accept (recorded.said found)) page.old page.new }
 {
     let rule = rule_of(found);
@@ -233,13 +209,13 @@ pub(crate) fn put_state(room: &[u32], state: u16, page: &mut Page)
 }
 
 // A start's number; NONE where there is none.
-fn start_number(start: Start) -> u32
+fn start_number(start: Result<Option<u16>, Missing>) -> u32
     ensures { result ≡ or_else none (started.said start) }
 {
     match start {
-        Start::At(s) => s as u32,
-        Start::Nowhere => NONE,
-        Start::NotTable => NONE,
+        Ok(Some(s)) => u32::from(s),
+        Ok(None) => NONE,
+        Err(_) => NONE,
     }
 }
 

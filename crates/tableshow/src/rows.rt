@@ -11,7 +11,7 @@ ghost use Rattle.tableshow.specs.Rows.{row_text, place_of, wide_row, first_with,
 use crate::text::put_form;
 use crate::{Page, forms};
 use refusal::{DEAD_STATE, ESCAPE_STATE, ESCAPES_START, WIDE_START};
-use room_find::{Answer, Found};
+use room_find::Missing;
 use rule_words::word_at;
 
 // What a target's number may be beside a state's.
@@ -70,14 +70,10 @@ fn put_item(items: u32, low: u32, high: u32, kind: u32, to: u32, page: &mut Page
 }
 
 // A number that is told of a state, or another where there is none.
-pub(crate) fn number_or(answer: Answer, other: u32) -> u32
+pub(crate) fn number_or(answer: Result<u32, Missing>, other: u32) -> u32
     ensures { result ≡ or_else other (said answer) }
 {
-    match answer {
-        Answer::Number(n) => n,
-        Answer::NoState => other,
-        Answer::NotTable => other,
-    }
+    answer.unwrap_or(other)
 }
 
 // The target on a symbol.
@@ -184,9 +180,8 @@ pub(crate) fn place_of(room: &[u32], k: usize, i: u32) -> usize
     ensures { (result ≡ place_of room.now k i) × (result < 2 ^ 62) }
 {
     match room_find::find_listed(room, k, i) {
-        Found::At(p) => p,
-        Found::Absent => 0,
-        Found::Outside => 0,
+        Ok(p) => p,
+        Err(_) => 0,
     }
 }
 
@@ -195,9 +190,8 @@ fn wide_row(room: &[u32], state: u16) -> u32
     ensures { result ≡ wide_row room.now state }
 {
     match room_find::find_state(room, state) {
-        Found::At(p) => room[p + 1],
-        Found::Absent => 0,
-        Found::Outside => 0,
+        Ok(p) => room[p + 1],
+        Err(_) => 0,
     }
 }
 
