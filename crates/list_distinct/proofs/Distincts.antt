@@ -2,20 +2,25 @@
 -- stand, m a mask of so many words. Assumes nothing.
 use mathlib.Core.Path.{◌≡◌, refl, sym, ap, ap₂, subst, ◌∙◌}
 use mathlib.Core.List.{List, [], ◌∷◌, ◌++◌, append_assoc, append-nil}
-use mathlib.Core.Bool.{Bool, true, false, and-true}
+use mathlib.Core.Bool.{Bool, true, false, ◌&&◌}
 use Prim.Native.Nat.{ℕ, zero, suc, ◌+◌, ◌*◌, ◌-◌, ◌<◌, ◌≤◌}
 use native.Mathlib.Nat.{suc-mul, mul-le-mul_right, zero-add}
 use native.Mathlib.Omega.{arith}
 use borrow.Author.Rules.{rules}
 use borrow.Author.Tests.{lt-ltb, le-ltb, eq-eqb, ne_eqb}
 use lib.Dec.{eqb}
+use lib.Pointwise.{pointwise}
+use borrow.Rule.Slice.PartMut.{put_mid}
 use lib.ListN.{length, get_or, take, drop, set, length-append, length-drop}
-use lib.Seq.{take-add, take_at, drop_at, drop-cons, drop-drop, length-take-le}
+use lib.Seq.{take-add, take_at, drop_at, drop-drop, length-take-le}
 use Rattle.refusal.specs.Lists.{pick, same_list, first_equal}
 use Rattle.refusal.specs.Fixed.{NONE}
 use Rattle.buffer.specs.Over.{over, lay, Put}
 use Rattle.buffer.proofs.Overs.{over-front, lay-length, lay-none, lay-lay}
 use Rattle.buffer.proofs.Going.{Going, going_start, going_place, going_put, going_done}
+use Rattle.std.specs.Prelude.{Option, position}
+use Rattle.std.specs.Option.{unwrap_or}
+use Rattle.list_distinct.proofs.Searches.{word_index, one_number}
 use Rattle.list_transitions.proofs.Order.{le_cases}
 use Rattle.list_masks.specs.Masks.{flat, is_zero, index, add_new, distinct, place_of, places_in}
 use Rattle.list_distinct.specs.Walk.{chunks, Entered, Gathered, Spaced}
@@ -73,30 +78,6 @@ module _ (known m : List ℕ) (left words p i : ℕ) {all : ℕ} (e : i + index 
   unfolding chunks first_equal
   find_done n = let z : left ≡ 0 = omega arith in let f = rw z at e in omega arith
 
--- The same for one word: the search for a mask of one
-
-module _ (known : List ℕ) (d x i : ℕ) {all : ℕ} (e : i + index (chunks (d - i) 1 (drop i known)) (x ∷ []) ≡ all) where
-  module _ (n : i < d) (h : d ≤ length known) where
-    one_same : eqb (get_or known i 0) x ≡ same_list (take 1 (drop i known)) (x ∷ [])
-    unfolding same_list
-    one_same = let there : i < length known = omega arith in rw (drop-cons known i 0 there) (sym (and-true (eqb (get_or known i 0) x)))
-
-    pub word_hit : get_or known i 0 ≡ x → i ≡ all
-    word_hit s = find_hit known (x ∷ []) (d - i) 1 i i e (omega arith) one_same (eq-eqb (get_or known i 0) x s)
-
-    pub word_turn : (get_or known i 0 ≡ x → ⊥) → i + 1 + index (chunks (d - (i + 1)) 1 (drop (i + 1) known)) (x ∷ []) ≡ all
-    word_turn s =
-        let more : d - (i + 1) ≡ d - i - 1 = omega arith in
-        rw more (find_turn known (x ∷ []) (d - i) 1 i i e (omega arith) one_same (ne_eqb (get_or known i 0) x s))
-
-  pub word_end : d ≤ i → i ≡ all
-  word_end n = find_done known (x ∷ []) (d - i) 1 i i e (omega arith)
-
-pub word-start : (known : List ℕ) (d x : ℕ) → 0 + index (chunks (d - 0) 1 (drop 0 known)) (x ∷ []) ≡ index (chunks d 1 known) (x ∷ [])
-word-start known d x = let e : d - 0 ≡ d = omega arith in rw e (find_start known (x ∷ []) d 1)
-
-pub ruleset wording = (rules, word-start, word_hit, word_turn, word_end)
-
 module _ (p left words : ℕ) {size : ℕ} (n : 0 < left) (h : p + left * words ≤ size) where
   pub one_more_lem : p + words + (left - 1) * words ≤ size
   one_more_lem =
@@ -106,21 +87,50 @@ module _ (p left words : ℕ) {size : ℕ} (n : 0 < left) (h : p + left * words 
   pub one_there : p + words ≤ size
   one_there = omega (arith, one_more_lem)
 
-pub all_there : (left words : ℕ) {size : ℕ} → left * words ≤ size → 0 + left * words ≤ size
-all_there left words h = omega arith
+same_is : (xs ys : List ℕ) → pointwise eqb xs ys ≡ same_list xs ys
+unfolding same_list
+same_is [] [] = refl
+same_is [] (y ∷ ys) = refl
+same_is (x ∷ xs) [] = refl
+same_is (x ∷ xs) (y ∷ ys) = ap (λ (t : Bool). eqb x y && t) (same_is xs ys)
 
-module _ (known ms : List ℕ) (d at words : ℕ) (o : words ≡ 1) where
-  pub one_word : d * words ≤ length known → d ≤ length known
-  one_word h = omega (arith, ap (λ (k : ℕ). d * k) o)
+pub one_more_words : (i words : ℕ) → (i + 1) * words ≡ i * words + words
+one_more_words i words = let e : i + 1 ≡ suc i = omega arith in ap (λ (k : ℕ). k * words) e ∙ omega (arith, suc-mul i words)
 
-  pub find_word : {r : ℕ} → at + words ≤ length ms → r ≡ index (chunks d 1 known) (get_or ms at 0 ∷ []) →
-      r ≡ index (chunks d words known) (take words (drop at ms))
-  find_word h e =
-      let there : at < length ms = omega arith in
-      let is : take 1 (drop at ms) ≡ get_or ms at 0 ∷ [] = ap (take 1) (drop-cons ms at 0 there) in
-      rw (o, is) e
+module _ (known m : List ℕ) (d : ℕ) where
+  abbrev size : ℕ
+  size = length m
 
-pub ruleset finding = (rules, one_word, find_word, all_there, find_start, one_more_lem, one_there, find_hit, find_turn, find_done)
+  -- one word: by the library's search
+  pub find_one : d * size ≤ length known → {r x : ℕ} {o : Option ℕ} → size ≡ 1 → x ≡ get_or m 0 0 → o ≡ position (λ w. eqb w x) (take d known) →
+      r ≡ unwrap_or o d → r ≡ index (chunks d size known) m
+  find_one h {r} {x} l e f g =
+      let one : m ≡ x ∷ [] = one_number m l ∙ ap (λ (y : ℕ). y ∷ []) (sym e) in
+      let some : d ≤ length known = omega (arith, ap (λ (n : ℕ). d * n) l, h) in
+      let at : unwrap_or (position (λ w. eqb w x) (take d known)) d ≡ index (chunks d size known) m = rw (l, one) (word_index x d known some) in
+      g ∙ ap (λ (o : Option ℕ). unwrap_or o d) f ∙ at
+
+  pub loop_start : 0 + index (chunks (d - 0) size (drop (0 * size) known)) m ≡ index (chunks d size known) m
+  loop_start =
+      let e : d - 0 ≡ d = omega arith in
+      let z : 0 * size ≡ 0 = omega arith in
+      rw (e, z) (find_start known m d size)
+
+  module _ (i : ℕ) {all : ℕ} (e : i + index (chunks (d - i) size (drop (i * size) known)) m ≡ all) where
+    module _ (n : i < d) {b : Bool} (f : b ≡ pointwise eqb (take (i * size + size - i * size) (drop (i * size) known)) m) where
+      is_same : b ≡ same_list (take size (drop (i * size) known)) m
+      is_same = let k : i * size + size - i * size ≡ size = omega arith in rw k at (f ∙ same_is _ m)
+
+      pub loop_hit : b ≡ true → i ≡ all
+      loop_hit h = find_hit known m (d - i) size (i * size) i e (omega arith) is_same h
+
+      pub loop_turn : b ≡ false → i + 1 + index (chunks (d - (i + 1)) size (drop ((i + 1) * size) known)) m ≡ all
+      loop_turn h =
+          let k : d - (i + 1) ≡ d - i - 1 = omega arith in
+          rw (k, one_more_words i size) (find_turn known m (d - i) size (i * size) i e (omega arith) is_same h)
+
+    pub loop_done : i ≤ d → d ≤ i → d ≡ all
+    loop_done l h = omega (arith, find_done known m (d - i) size (i * size) i e (omega arith))
 
 -- A mask is put behind the others, or not
 
@@ -176,11 +186,16 @@ module _ (d words : ℕ) (out m : List ℕ) (h : d * words + words ≤ length ou
               ∙ ap (λ (t : List ℕ). lay 0 t out) (sym all ∙ ap flat (sym is));
         }
 
-pub put_room : (ms : List ℕ) (at words d : ℕ) (out : List ℕ) → at + words ≤ length ms → d * words + words ≤ length out →
-    d * words + length (take words (drop at ms)) ≤ length out
-put_room ms at words d out l h = omega (arith, length-take-le words (drop at ms) (omega (arith, length-drop at ms)))
+-- a slice copied over a part
+pub put_slice : (m out : List ℕ) (at : ℕ) {new : List ℕ} → at + length m ≤ length out → new ≡ m →
+    Put m at out (at + length m) (put_mid at (at + length m - at) out new)
+unfolding lay
+put_slice m out at h e =
+    let k : at + length m - at ≡ length m = omega arith in
+    let fits : length m ≤ length (drop at out) = omega (arith, length-drop at out) in
+    record { next = refl; is = rw (k, e) (ap (λ (l : List ℕ). take at out ++ l) (sym (over-front m (drop at out) fits))) }
 
-pub ruleset adding = (rules, add_room, add_empty, add_there, add_new_lem, put_room)
+pub ruleset adding = (rules, add_room, add_empty, add_there, add_new_lem, put_slice)
 
 -- How many there are then
 
@@ -370,4 +385,47 @@ module _ (ms : List ℕ) (count words : ℕ) (old olds : List ℕ) (left at d i 
         places = (going_done (places_among all all) 0 olds done).is;
       }
 
-pub ruleset gathering = (rules, gather_start, gather_one, gather_room, gather_few, gather_place, gather_turn, gather_same, gather_done)
+-- The same by the place i of the mask: the loop counts it
+
+pub step_start : (ms : List ℕ) (count words : ℕ) (old olds : List ℕ) → Spaced ms count words old olds →
+    Gathering ms count words old olds (count - 0) (0 * words) 0 0 old olds
+step_start ms count words old olds s =
+    let a : count - 0 ≡ count = omega arith in
+    let b : 0 * words ≡ 0 = omega arith in
+    rw (a, b) (gather_start ms count words old olds s)
+
+module _ (ms : List ℕ) (count words : ℕ) (old olds : List ℕ) (i d : ℕ) (out places : List ℕ)
+    (g : Gathering ms count words old olds (count - i) (i * words) d i out places) where
+  abbrev part : List ℕ
+  part = take (i * words + words - i * words) (drop (i * words) ms)
+
+  module _ (n : i < count) where
+    pub step_one : i * words + words ≤ length ms
+    step_one = gather_one ms count words old olds (count - i) (i * words) d i out places g (omega arith)
+
+    is_part : part ≡ take words (drop (i * words) ms)
+    is_part = let k : i * words + words - i * words ≡ words = omega arith in rw k
+
+    part_size : length part ≡ words
+    part_size = ap length is_part ∙ length-take-le words (drop (i * words) ms) (omega (arith, length-drop (i * words) ms, step_one))
+
+    pub step_room : d * length part + length part ≤ length out
+    step_room = rw part_size (gather_room ms count words old olds (count - i) (i * words) d i out places g (omega arith))
+
+    pub step_few : d < 2048
+    step_few = gather_few ms count words old olds (count - i) (i * words) d i out places g (omega arith)
+
+    pub step_place : i < length places
+    step_place = gather_place ms count words old olds (count - i) (i * words) d i out places g (omega arith)
+
+    pub step_turn : {r e : ℕ} {new : List ℕ} → Entered (chunks d (length part) out) part out r new → e ≡ pick (eqb r d) (d + 1) d →
+        Gathering ms count words old olds (count - (i + 1)) ((i + 1) * words) e (i + 1) new (set places i r)
+    step_turn s c =
+        let a : count - (i + 1) ≡ count - i - 1 = omega arith in
+        rw (a, one_more_words i words)
+        (gather_turn ms count words old olds (count - i) (i * words) d i out places g (omega arith) (rw (part_size, is_part) at s) c)
+
+  pub step_done : count ≤ i → Gathered (chunks count words ms) old d out olds places
+  step_done h = gather_done ms count words old olds (count - i) (i * words) d i out places g (omega arith)
+
+pub ruleset gathering = (rules, step_start, step_one, step_room, step_few, step_place, step_turn, step_done)

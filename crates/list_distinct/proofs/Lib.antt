@@ -1,4 +1,4 @@
-pub mod Parts
+pub mod Searches
 pub mod Distincts
 pub mod PlaceAnswers
 pub mod DistinctAnswers

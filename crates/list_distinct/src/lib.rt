@@ -1,8 +1,8 @@
 // The distinct ones among the masks of a list's segments, and where each segment's mask stands among them; the same without the places.
 #![tactic(auto)]
 
-ghost use Rattle.std.specs.Prelude.{◌≡◌, [], ◌∷◌, ◌||◌, ◌+◌, ◌*◌, ◌≤◌, ◌<◌, eqb, ltb, length, take, drop};
-ghost use Rattle.refusal.specs.Lists.{pick, same_list};
+ghost use Rattle.std.specs.Prelude.{◌≡◌, [], ◌∷◌, ◌||◌, ◌+◌, ◌*◌, ◌≤◌, ◌<◌, eqb, ltb, length, take, drop, position};
+ghost use Rattle.refusal.specs.Lists.{pick};
 ghost use Rattle.buffer.specs.Over.{Put};
 ghost use Rattle.list_masks.specs.Masks.{is_zero, index};
 ghost use Rattle.list_masks.specs.Answer.{parse_masks, parse_distinct, Distinct};
@@ -23,113 +23,52 @@ pub struct Places {
     pub words: usize,
 }
 
-// Is the mask at `at` empty?
-fn is_zero(masks: &[u64], at: usize, words: usize) -> bool
-    requires { at + words ≤ length masks.now }
-    ensures { result ≡ is_zero (take words (drop at masks.now)) }
+fn is_zero(mask: &[u64]) -> bool
+    ensures { result ≡ is_zero mask.now }
 {
-    let mut here = at;
-    let mut left = words;
-    while 0 < left {
-        if masks[here] != 0 {
-            return false;
-        }
-        here += 1;
-        left -= 1;
-    }
-    true
+    mask.iter().all(|word| *word == 0)
 }
 
-// Is the mask at p of one buffer that at `at` of the other?
-fn same_at(known: &[u64], p: usize, masks: &[u64], at: usize, words: usize) -> bool
-    requires one { p + words ≤ length known.now }
-    requires other { at + words ≤ length masks.now }
-    ensures { result ≡ same_list (take words (drop p known.now)) (take words (drop at masks.now)) }
+// The place of a word among the known ones.
+fn find_word(known: &[u64], x: u64) -> Option<usize>
+    ensures { result ≡ position (λ w. eqb w x) known.now }
 {
-    let mut i = p;
-    let mut j = at;
-    let mut left = words;
-    while 0 < left {
-        if known[i] != masks[j] {
-            return false;
-        }
-        i += 1;
-        j += 1;
-        left -= 1;
-    }
-    true
+    known.iter().position(|word| *word == x)
 }
 
-// The place of a word among the first d of the known ones, or d.
-fn find_word(known: &[u64], d: usize, x: u64) -> usize
-    requires { d ≤ length known.now }
-    ensures { result ≡ index (chunks d 1 known.now) (x ∷ []) }
+// The place of a mask among the first d of the known ones, or d. Masks of one word, the most common ones, need no comparison of slices.
+fn find_mask(known: &[u64], d: usize, mask: &[u64]) -> usize
+    requires { d * length mask.now ≤ length known.now }
+    ensures { result ≡ index (chunks d (length mask.now) known.now) mask.now }
 {
-    let mut i: usize = 0;
-    while i < d {
-        if known[i] == x {
-            return i;
-        }
-        i += 1;
-    }
-    i
-}
-
-// The place of the mask at `at` among the first d of the known ones, or d. Masks of one word, the most common ones, need no loop over words.
-fn find_mask(known: &[u64], d: usize, masks: &[u64], at: usize, words: usize) -> usize
-    requires some { d * words ≤ length known.now }
-    requires one { at + words ≤ length masks.now }
-    ensures { result ≡ index (chunks d words known.now) (take words (drop at masks.now)) }
-{
+    let words = mask.len();
     if words == 1 {
-        return find_word(known, d, masks[at]);
+        return find_word(&known[..d], mask[0]).unwrap_or(d);
     }
-    let mut left = d;
-    let mut p: usize = 0;
-    let mut i: usize = 0;
-    while 0 < left {
-        if same_at(known, p, masks, at, words) {
+    for i in 0..d {
+        let at = i * words;
+        if &known[at..at + words] == mask {
             return i;
         }
-        p += words;
-        i += 1;
-        left -= 1;
     }
-    i
+    d
 }
 
-fn put_words(masks: &[u64], at: usize, words: usize, out: &mut [u64], k: usize) -> usize
-    requires one { at + words ≤ length masks.now }
-    requires room { k + length (take words (drop at masks.now)) ≤ length out.old }
-    ensures { Put (take words (drop at masks.now)) k out.old result out.new }
-{
-    let mut here = at;
-    let mut left = words;
-    let mut m = k;
-    while 0 < left {
-        out[m] = masks[here];
-        here += 1;
-        left -= 1;
-        m += 1;
-    }
-    m
-}
-
-// The place of the mask at `at` among the d distinct ones, behind which it is put if it is new. An empty one is not, and has no place.
-fn add_mask(masks: &[u64], at: usize, words: usize, out: &mut [u64], d: usize) -> u32
-    requires one { at + words ≤ length masks.now }
-    requires room { d * words + words ≤ length out.old }
+// The place of a mask among the d distinct ones, behind which it is put if it is new. An empty one is not, and has no place.
+fn add_mask(mask: &[u64], out: &mut [u64], d: usize) -> u32
+    requires room { d * length mask.now + length mask.now ≤ length out.old }
     requires few { d < 2048 }
-    ensures { Entered (chunks d words out.old) (take words (drop at masks.now)) out.old result out.new }
+    ensures { Entered (chunks d (length mask.now) out.old) mask.now out.old result out.new }
 {
-    if is_zero(masks, at, words) {
+    if is_zero(mask) {
         return NONE;
     }
-    let i = find_mask(out, d, masks, at, words);
+    let i = find_mask(out, d, mask);
     if i < d {
         return i as u32;
     }
-    put_words(masks, at, words, out, d * words);
+    let at = d * mask.len();
+    out[at..at + mask.len()].copy_from_slice(mask);
     d as u32
 }
 
@@ -156,17 +95,12 @@ fn put_distinct(
     ensures { Gathered (chunks count words masks.now) out.old result out.new
         places.old places.new }
 {
-    let mut left = count;
-    let mut at: usize = 0;
-    let mut d: usize = 0;
-    let mut i: usize = 0;
-    while 0 < left {
-        let place = add_mask(masks, at, words, out, d);
+    let mut d = 0;
+    for i in 0..count {
+        let at = i * words;
+        let place = add_mask(&masks[at..at + words], out, d);
         places[i] = place;
         d = count_with(d, place);
-        at += words;
-        i += 1;
-        left -= 1;
     }
     d
 }
@@ -181,10 +115,7 @@ fn clear_both(words: &mut [u64], numbers: &mut [u32])
 fn too_short(out: usize, places: usize) -> bool
     ensures { result ≡ (ltb out 8192 || ltb places 2048) }
 {
-    if out < WORDS {
-        return true;
-    }
-    places < PLACES
+    out < WORDS || places < PLACES
 }
 
 // The masks of a list and their places, where the buffers for distinct masks and places are long enough and hold zeros.

@@ -1,42 +1,18 @@
-use native.Mathlib.Omega.{arith}
-use Rattle.list_distinct.proofs.Distincts.{finding, one_there}
+use mathlib.Core.Path.{refl}
+use Rattle.list_distinct.proofs.Distincts.{find_one, loop_start, loop_hit, loop_turn, loop_done}
 use Rattle.list_distinct.proofs.find_mask.Goals as goal
 
-pub offset_bounds-masks-at : goal.offset_bounds-masks-at
-offset_bounds-masks-at c = search finding
-
-pub bounds-masks-at : goal.bounds-masks-at
-bounds-masks-at c = search finding
-
-pub find_word-requires : goal.find_word-requires
-find_word-requires c = search finding
-
 pub returns-then-words-eq1 : goal.returns-then-words-eq1
-returns-then-words-eq1 c = search finding
+returns-then-words-eq1 c = find_one c.args.known.now _ _ c.requires c.if-words-eq1.true refl c.find_word.ensures c.unwrap_or.ensures
 
-pub loop-left-init : goal.loop-left-init
-loop-left-init c = search finding
+pub loop-i-init : goal.loop-i-init
+loop-i-init c = loop_start _ _ _
 
-pub same_at-requires : goal.same_at-requires
-same_at-requires c = search finding
+pub returns-then-eq : goal.returns-then-eq
+returns-then-eq c = loop_hit _ _ _ _ c.loop-i.invariant c.loop-i-test.true c.eq.ensures c.if-eq.true
 
-pub returns-then-same_at : goal.returns-then-same_at
-returns-then-same_at c = search finding
-
-pub overflow_add-p : goal.overflow_add-p
-overflow_add-p c = omega (arith, one_there _ _ _ c.loop-left-test.true c.loop-left.invariant.0)
-
-pub overflow_add-i : goal.overflow_add-i
-overflow_add-i c = search finding
-
-pub overflow_sub-left : goal.overflow_sub-left
-overflow_sub-left c = search finding
-
-pub loop-left-smaller : goal.loop-left-smaller
-loop-left-smaller c = search finding
-
-pub loop-left-preserved : goal.loop-left-preserved
-loop-left-preserved c = search finding
+pub loop-i-preserved : goal.loop-i-preserved
+loop-i-preserved c = loop_turn _ _ _ _ c.loop-i.invariant c.loop-i-test.true c.eq.ensures c.if-eq.false
 
 pub returns : goal.returns
-returns c = search finding
+returns c = loop_done _ _ _ c.loop-i.i c.loop-i.invariant c.loop-i.auto.i-end c.loop-i-test.false
