@@ -1,11 +1,11 @@
 -- What the call answers and leaves in the buffer, part by part: d is the buffer of zeros, new what it holds at the end. Assumes nothing.
-use Prim.Native.Nat.{ℕ, suc, ◌+◌, ◌<◌, ◌≤◌}
+use Prim.Native.Nat.{ℕ, suc, ◌+◌, ◌-◌, ◌<◌, ◌≤◌}
 use native.Mathlib.Omega.{arith}
 use mathlib.Core.Path.{◌≡◌, refl, sym, ap, ◌∙◌}
 use mathlib.Core.Bool.{true, false}
 use mathlib.Core.List.{List, [], ◌∷◌, ◌++◌}
 use lib.Dec.{ltb}
-use lib.ListN.{length, length-append}
+use lib.ListN.{length, take, drop, length-append}
 use borrow.Author.Rules.{rules}
 use borrow.Author.Tests.{lt-ltb, le-ltb}
 use Rattle.refusal.specs.Said.{ok, ROOM, NOT-TABLE, ORDER}
@@ -16,10 +16,13 @@ use Rattle.std.specs.Prelude.{Result, Ok, Err}
 use Rattle.room_find.specs.declared.Missing.{Missing}
 use Rattle.room_find.specs.declared.Span.{Span}
 use Rattle.room_find.specs.Answer as answer
-use Rattle.look_modes.specs.Modes.{state_count, numbers, modes_up_to, of_modes}
-use Rattle.look_modes.proofs.Numbers.{numbers-length}
+use Rattle.look_modes.specs.Modes.{state_count, modes_up_to, of_modes}
+use Rattle.look_modes.proofs.Numbers.{part_is}
 use Rattle.look_modes.proofs.AllModesLaws.{modes_lie}
 use Rattle.look_mode_lists.specs.Written.{refused, Writes}
+use Rattle.std.specs.List.{count_by}
+use Rattle.look_modes.specs.Start.{compiled}
+use Rattle.look_mode_lists.proofs.Walks.{compiled_counted}
 use Rattle.look_mode_lists.proofs.Lists.{written, unwritten, cleared_length, cleared}
 use Rattle.look_mode_lists.specs.Counts.{compiled_of, differences, counts_of, descent, counts_for, limit_of, counts_with, asked, mode_state_counts}
 
@@ -33,45 +36,41 @@ unfolding differences
 counts_length c [] = refl
 counts_length c (x ∷ l) = differences-length x (l ++ (c ∷ [])) ∙ length-append l (c ∷ []) ∙ (omega arith)
 
-module _ (w : List ℕ) (count at c : ℕ) {k : ℕ} (e : k ≡ length (compiled_of (numbers w count at))) where
-  pub counts_fit : {n : ℕ} → k ≤ n → 0 + length (counts_of c (numbers w count at)) ≤ n
-  counts_fit h = omega (arith, counts_length c (compiled_of (numbers w count at)))
+module _ (l : List ℕ) (c : ℕ) {k : ℕ} (e : k ≡ count_by compiled l) where
+  pub counts_fit : {n : ℕ} → k ≤ n → 0 + length (counts_of c l) ≤ n
+  counts_fit h = omega (arith, counts_length c (compiled_of l), compiled_counted l)
 
-  pub counts_room : (n : ℕ) {r : Written} {new : List ℕ} → n < k → Writes r n new (refused ROOM 0) → Writes r n new (counts_for n c (numbers w count at))
+  pub counts_room : (n : ℕ) {r : Written} {new : List ℕ} → n < k → Writes r n new (refused ROOM 0) → Writes r n new (counts_for n c l)
   unfolding counts_for
-  counts_room n h g =
-      let q : ltb n (length (compiled_of (numbers w count at))) ≡ true = lt-ltb n (length (compiled_of (numbers w count at))) (omega arith) in rw q g
+  counts_room n h g = let q : ltb n (length (compiled_of l)) ≡ true = lt-ltb n (length (compiled_of l)) (omega (arith, compiled_counted l)) in rw q g
 
-  module _ {p : ℕ} (f : p ≡ descent 0 (numbers w count at)) where
-    pub counts_order : (n : ℕ) {r : Written} {new : List ℕ} → k ≤ n → p < count → Writes r n new (refused ORDER p)
-        → Writes r n new (counts_for n c (numbers w count at))
+  module _ {p : ℕ} (f : p ≡ descent 0 l) where
+    pub counts_order : (n : ℕ) {r : Written} {new : List ℕ} → k ≤ n → p < length l → Writes r n new (refused ORDER p) → Writes r n new (counts_for n c l)
     unfolding counts_for
-    counts_order n h l g =
-        let q : ltb n (length (compiled_of (numbers w count at))) ≡ false = le-ltb n (length (compiled_of (numbers w count at))) (omega arith) in
-        let s : ltb (descent 0 (numbers w count at)) (length (numbers w count at)) ≡ true
-        = lt-ltb (descent 0 (numbers w count at)) (length (numbers w count at)) (omega (arith, numbers-length w count at)) in
+    counts_order n h i g =
+        let q : ltb n (length (compiled_of l)) ≡ false = le-ltb n (length (compiled_of l)) (omega (arith, compiled_counted l)) in
+        let s : ltb (descent 0 l) (length l) ≡ true = lt-ltb (descent 0 l) (length l) (omega arith) in
         rw (q, s, ← f) g
 
-    pub counts_written : (d : List ℕ) {r : ℕ} {new : List ℕ} → k ≤ length d → count ≤ p → d ≡ zeros (length d) →
-        Put (counts_of c (numbers w count at)) 0 d r new →
-        Writes (Numbers r) (length d) new (counts_for (length d) c (numbers w count at))
+    pub counts_written : (d : List ℕ) {r : ℕ} {new : List ℕ} → k ≤ length d → length l ≤ p → d ≡ zeros (length d) → Put (counts_of c l) 0 d r new
+        → Writes (Numbers r) (length d) new (counts_for (length d) c l)
     unfolding counts_for
-    counts_written d h l z g =
-        let q : ltb (length d) (length (compiled_of (numbers w count at))) ≡ false =
-        le-ltb (length d) (length (compiled_of (numbers w count at))) (omega arith) in
-        let s : ltb (descent 0 (numbers w count at)) (length (numbers w count at)) ≡ false
-        = le-ltb (descent 0 (numbers w count at)) (length (numbers w count at)) (omega (arith, numbers-length w count at)) in
-        let b : length (counts_of c (numbers w count at)) ≤ length d = omega (arith, counts_length c (compiled_of (numbers w count at))) in
-        rw (q, s) (written (counts_of c (numbers w count at)) d b z g)
+    counts_written d h i z g =
+        let q : ltb (length d) (length (compiled_of l)) ≡ false = le-ltb (length d) (length (compiled_of l)) (omega (arith, compiled_counted l)) in
+        let s : ltb (descent 0 l) (length l) ≡ false = le-ltb (descent 0 l) (length l) (omega arith) in
+        let b : length (counts_of c l) ≤ length d = omega (arith, counts_length c (compiled_of l), compiled_counted l) in
+        rw (q, s) (written (counts_of c l) d b z g)
 
 pub ruleset listing = (rules, unwritten, counts_fit, counts_room, counts_order, counts_written)
 
 -- The modes are found, or outside
 
 module _ (w : List ℕ) (n c : ℕ) {k : ℕ} {got : Result Span Missing} {r : Written} {new : List ℕ} (g : got ≡ modes_up_to w k) (e : k ≡ limit_of c) where
-  pub counts_there : {t : Span} → got ≡ Ok t → Writes r n new (counts_for n c (numbers w t.length t.from)) → Writes r n new (counts_with w n c)
+  pub counts_there : {t : Span} → got ≡ Ok t → Writes r n new (counts_for n c (take (t.from + t.length - t.from) (drop t.from w))) → Writes r n new (counts_with w n c)
   unfolding counts_with of_modes
-  counts_there h l = let q : modes_up_to w (limit_of c) ≡ _ = ap (modes_up_to w) (sym e) ∙ sym g ∙ h in rw q l
+  counts_there {t} h l =
+      let q : modes_up_to w (limit_of c) ≡ Ok t = ap (modes_up_to w) (sym e) ∙ sym g ∙ h in
+      rw q (rw (part_is w t.length t.from (modes_lie w k g h)) at l)
 
   pub counts_outside : {m : Missing} → got ≡ Err m → Writes r n new (refused NOT-TABLE 0) → Writes r n new (counts_with w n c)
   unfolding counts_with of_modes

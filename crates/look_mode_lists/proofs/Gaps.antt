@@ -5,14 +5,13 @@ use mathlib.Core.Path.{◌≡◌, refl}
 use mathlib.Core.Bool.{Bool, true, false}
 use mathlib.Core.List.{List, [], ◌∷◌, ◌++◌, append-nil}
 use lib.Dec.{leb}
-use lib.ListN.{length, get_or, set}
+use lib.ListN.{length, get_or, set, drop}
 use borrow.Author.Rules.{rules}
 use borrow.Author.Tests.{le-leb, lt-leb}
 use Rattle.refusal.specs.Fixed.{NONE}
 use Rattle.buffer.specs.Over.{Put}
 use Rattle.buffer.proofs.Going.{Going, going_start, going_done, going_room, going_turn, going_put, put_none}
-use Rattle.look_modes.specs.Modes.{numbers}
-use Rattle.look_modes.proofs.Numbers.{numbers_open, numbers_done}
+use Rattle.look_mode_lists.proofs.Lists.{opens, closes}
 use Rattle.look_mode_lists.specs.Counts.{compiled_of, differences, counts_of, later, gap, step}
 
 -- One mode
@@ -71,33 +70,33 @@ gaps_are c (x ∷ l) = cases (leb x 65535) refl (gaps_are c l)
     cases true e r = rw (e, waiting c x l e)
     cases false e r = rw (e, r)
 
-gaps_open : (w : List ℕ) (c last left here : ℕ) → 0 < left
-    → gaps_from c last (numbers w left here) ≡ step last (get_or w here 0) ++ gaps_from c (later last (get_or w here 0)) (numbers w (left - 1) (here + 1))
+gaps_open : (ys : List ℕ) (c last j : ℕ) → j < length ys
+    → gaps_from c last (drop j ys) ≡ step last (get_or ys j 0) ++ gaps_from c (later last (get_or ys j 0)) (drop (j + 1) ys)
 unfolding gaps_from
-gaps_open w c last left here h = rw (numbers_open w left here h)
+gaps_open ys c last j h = rw (opens ys j h)
 
-gaps_done : (w : List ℕ) (c last left here : ℕ) → left ≤ 0 → gaps_from c last (numbers w left here) ≡ gap last c
+gaps_done : (ys : List ℕ) (c last j : ℕ) → length ys ≤ j → gaps_from c last (drop j ys) ≡ gap last c
 unfolding gaps_from
-gaps_done w c last left here h = rw (numbers_done w left here h)
+gaps_done ys c last j h = rw (closes ys j h)
 
 pub gaps-start : (c : ℕ) (l : List ℕ) (d : List ℕ) → 0 + length (counts_of c l) ≤ length d → Going (counts_of c l) 0 d (gaps_from c NONE l) 0 d
 gaps-start c l d h = rw (gaps_are c l) (going_start (counts_of c l) 0 d h)
 
-module _ (w : List ℕ) (c last left here : ℕ) {xs : List ℕ} {n : ℕ} {old : List ℕ} {m : ℕ} {out : List ℕ}
-    (g : Going xs n old (gaps_from c last (numbers w left here)) m out) where
-  pub gaps-room : 0 < left → m + length (step last (get_or w here 0)) ≤ length out
-  gaps-room h = going_room xs n old (gaps_from c (later last (get_or w here 0)) (numbers w (left - 1) (here + 1))) m out (step last (get_or w here 0))
-      (rw (gaps_open w c last left here h) at g)
+module _ (ys : List ℕ) (c last j : ℕ) {xs : List ℕ} {n : ℕ} {old : List ℕ} {m : ℕ} {out : List ℕ}
+    (g : Going xs n old (gaps_from c last (drop j ys)) m out) where
+  pub gaps-room : j < length ys → m + length (step last (get_or ys j 0)) ≤ length out
+  gaps-room h = going_room xs n old (gaps_from c (later last (get_or ys j 0)) (drop (j + 1) ys)) m out (step last (get_or ys j 0))
+      (rw (gaps_open ys c last j h) at g)
 
-  pub gaps_turn : {next r : ℕ} {new : List ℕ} → 0 < left → Put (step last (get_or w here 0)) m out r new → next ≡ later last (get_or w here 0)
-      → Going xs n old (gaps_from c next (numbers w (left - 1) (here + 1))) r new
-  gaps_turn h p e = rw e (going_turn xs n old (gaps_from c (later last (get_or w here 0)) (numbers w (left - 1) (here + 1))) m out (step last (get_or w here 0)) p
-      (rw (gaps_open w c last left here h) at g))
+  pub gaps_turn : {next r : ℕ} {new : List ℕ} → j < length ys → Put (step last (get_or ys j 0)) m out r new → next ≡ later last (get_or ys j 0)
+      → Going xs n old (gaps_from c next (drop (j + 1) ys)) r new
+  gaps_turn h p e = rw e (going_turn xs n old (gaps_from c (later last (get_or ys j 0)) (drop (j + 1) ys)) m out (step last (get_or ys j 0)) p
+      (rw (gaps_open ys c last j h) at g))
 
-  pub last-room : left ≤ 0 → m + length (gap last c) ≤ length out
-  last-room h = let f = rw (gaps_done w c last left here h) at g in omega (arith, f.next, f.size, f.room)
+  pub last-room : length ys ≤ j → m + length (gap last c) ≤ length out
+  last-room h = let f = rw (gaps_done ys c last j h) at g in omega (arith, f.next, f.size, f.room)
 
-  pub last_written : {r : ℕ} {new : List ℕ} → left ≤ 0 → Put (gap last c) m out r new → Put xs n old r new
-  last_written h p = going_done xs n old (going_turn xs n old [] m out (gap last c) p (rw (gaps_done w c last left here h, ← append-nil (gap last c)) at g))
+  pub last_written : {r : ℕ} {new : List ℕ} → length ys ≤ j → Put (gap last c) m out r new → Put xs n old r new
+  last_written h p = going_done xs n old (going_turn xs n old [] m out (gap last c) p (rw (gaps_done ys c last j h, ← append-nil (gap last c)) at g))
 
 pub ruleset gapping = (rules, gaps-start, gaps-room, gaps_turn, last-room, last_written)

@@ -1,10 +1,12 @@
 -- What a call that writes a list answers and leaves in the buffer: d is the buffer of zeros, new what it holds at the end. Assumes nothing.
-use Prim.Native.Nat.{ℕ, ◌≤◌}
+use Prim.Native.Nat.{ℕ, suc, ◌+◌, ◌<◌, ◌≤◌}
 use native.Mathlib.Omega.{arith}
-use mathlib.Core.Path.{◌≡◌, refl, sym, ap, ◌∙◌}
+use mathlib.Core.Path.{◌≡◌, sym, ap, ◌∙◌}
 use mathlib.Core.List.{List, [], ◌∷◌}
-use lib.ListN.{length, length-replicate}
+use lib.ListN.{length, get_or, drop, drop_of_length-le, length-replicate}
+use Rattle.std.proofs.Common.{drop-cons}
 use Rattle.refusal.specs.Said.{ok, refusal_at}
+use Rattle.buffer.specs.declared.Written.{Written}
 use Rattle.buffer.specs.declared.Written.TheVariants.{Numbers, Refused}
 use Rattle.buffer.specs.Over.{lay, Put, zeros}
 use Rattle.buffer.proofs.Overs.{lay-zeros}
@@ -17,8 +19,8 @@ written l d {r} h z p =
     record { says = ap (λ (k : ℕ). ok (k ∷ [])) n; leaves = p.is ∙ ap (lay 0 l) z ∙ lay-zeros (length d) l h }
 
 -- a refusal, with nothing written
-pub unwritten : (d : List ℕ) {n p : ℕ} → d ≡ zeros (length d) → Writes (Refused (refusal_at n p)) (length d) d (refused n p)
-unwritten d z = record { says = refl; leaves = z }
+pub unwritten : (d : List ℕ) {n p : ℕ} {r : Written} → r ≡ Refused (refusal_at n p) → d ≡ zeros (length d) → Writes r (length d) d (refused n p)
+unwritten d e z = record { says = rw e; leaves = z }
 
 -- The buffer was cleared first
 
@@ -28,3 +30,11 @@ module _ (old : List ℕ) {d : List ℕ} (z : d ≡ zeros (length old)) where
 
   pub cleared : d ≡ zeros (length d)
   cleared = z ∙ ap zeros (sym cleared_length)
+
+-- A list that is gone through one after the other
+
+pub opens : (ys : List ℕ) (j : ℕ) → j < length ys → drop j ys ≡ get_or ys j 0 ∷ drop (j + 1) ys
+opens ys j h = let e : j + 1 ≡ suc j = omega arith in rw (e, drop-cons ys j 0)
+
+pub closes : (ys : List ℕ) (j : ℕ) → length ys ≤ j → drop j ys ≡ []
+closes ys j h = drop_of_length-le ys h

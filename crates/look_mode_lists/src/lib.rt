@@ -4,14 +4,26 @@
 
 ghost use Rattle.std.specs.Prelude.{◌≡◌, ◌+◌, ◌≤◌, ◌-◌, map, length};
 ghost use Rattle.buffer.specs.Over.{Put, zeros};
-ghost use Rattle.look_modes.specs.Modes.{numbers};
+ghost use Rattle.std.specs.List.{count_by};
+ghost use Rattle.look_modes.specs.Start.{compiled};
+ghost use Rattle.refusal.specs.Said.{refusal_at};
 ghost use Rattle.look_mode_lists.specs.Written.{Writes};
 ghost use Rattle.look_mode_lists.specs.Flags.{flag, flags_for, mode_flags};
-ghost use Rattle.look_mode_lists.specs.Counts.{compiled_of, counts_of, later, descent, counts_for, limit_of, counts_with, mode_state_counts, gap, step};
+ghost use Rattle.look_mode_lists.specs.Counts.{counts_of, later, descent, counts_for, limit_of, counts_with, mode_state_counts, gap, step};
 
 use buffer::Written;
 use refusal::{NONE, NOT_TABLE, ORDER, ROOM, Refusal, STATE};
 use room_find::Missing;
+
+fn refuse(number: u32, place: usize) -> Written
+    ensures { result ≡ Written.Refused (refusal_at number place) }
+{
+    Written::Refused(Refusal {
+        number,
+        item: 0,
+        place,
+    })
+}
 
 // 1 for a compiled mode, else 0.
 fn flag_of(start: u32) -> u32
@@ -23,37 +35,27 @@ fn flag_of(start: u32) -> u32
     0
 }
 
-fn put_flags(room: &[u32], at: usize, count: usize, out: &mut [u32]) -> usize
-    requires within { at + count ≤ length room.now }
-    requires fits { 0 + length (map flag (numbers room.now count at)) ≤ length out.old }
-    ensures { Put (map flag (numbers room.now count at)) 0 out.old result out.new }
+fn put_flags(starts: &[u32], out: &mut [u32]) -> usize
+    requires { 0 + length (map flag starts.now) ≤ length out.old }
+    ensures { Put (map flag starts.now) 0 out.old result out.new }
 {
-    let mut left = count;
-    let mut here = at;
     let mut m = 0;
-    while 0 < left {
-        out[m] = flag_of(room[here]);
-        here += 1;
-        left -= 1;
+    for start in starts {
+        out[m] = flag_of(*start);
         m += 1;
     }
     m
 }
 
-// The flags of `count` modes from `at`, into a buffer of zeros.
-fn flags_into(room: &[u32], at: usize, count: usize, out: &mut [u32]) -> Written
-    requires within { at + count ≤ length room.now }
-    requires clear { out.old ≡ zeros (length out.old) }
-    ensures { Writes result (length out.old) out.new (flags_for (length out.old) (numbers room.now count at)) }
+// The flags of modes with these starts, into a buffer of zeros.
+fn flags_into(starts: &[u32], out: &mut [u32]) -> Written
+    requires { out.old ≡ zeros (length out.old) }
+    ensures { Writes result (length out.old) out.new (flags_for (length out.old) starts.now) }
 {
-    if out.len() < count {
-        return Written::Refused(Refusal {
-            number: ROOM,
-            item: 0,
-            place: 0,
-        });
+    if out.len() < starts.len() {
+        return refuse(ROOM, 0);
     }
-    Written::Numbers(put_flags(room, at, count, out))
+    Written::Numbers(put_flags(starts, out))
 }
 
 // For each mode 1 where it is compiled, else 0.
@@ -62,29 +64,16 @@ pub fn compiled_mode_flags(room: &[u32], out: &mut [u32]) -> Written
 {
     buffer::clear(out);
     match look_modes::find_modes(room, 65535) {
-        Ok(modes) => flags_into(room, modes.from, modes.length, out),
-        Err(_) => Written::Refused(Refusal {
-            number: NOT_TABLE,
-            item: 0,
-            place: 0,
-        }),
+        Ok(modes) => flags_into(&room[modes.from..modes.from + modes.length], out),
+        Err(_) => refuse(NOT_TABLE, 0),
     }
 }
 
 // How many modes are compiled.
-fn compiled_count(room: &[u32], at: usize, count: usize) -> usize
-    requires { at + count ≤ length room.now }
-    ensures { result ≡ length (compiled_of (numbers room.now count at)) }
+fn compiled_count(starts: &[u32]) -> usize
+    ensures { result ≡ count_by compiled starts.now }
 {
-    let mut left = count;
-    let mut here = at;
-    let mut k = 0;
-    while 0 < left {
-        k += (room[here] <= 65535) as usize;
-        here += 1;
-        left -= 1;
-    }
-    k
+    starts.iter().filter(|start| **start <= 65535).count()
 }
 
 fn later_of(last: u32, x: u32) -> u32
@@ -97,34 +86,17 @@ fn later_of(last: u32, x: u32) -> u32
 }
 
 // The number of the first compiled mode that starts below the one before it, or how many modes there are.
-fn first_descent(room: &[u32], at: usize, count: usize) -> usize
-    requires { at + count ≤ length room.now }
-    ensures { result ≡ descent 0 (numbers room.now count at) }
+fn first_descent(starts: &[u32]) -> usize
+    ensures { result ≡ descent 0 starts.now }
 {
-    let mut left = count;
-    let mut here = at;
-    let mut i = 0;
     let mut last = 0;
-    while 0 < left {
-        if room[here] < last {
+    for (i, start) in starts.iter().enumerate() {
+        if *start < last {
             return i;
         }
-        last = later_of(last, room[here]);
-        here += 1;
-        left -= 1;
-        i += 1;
+        last = later_of(last, *start);
     }
-    i
-}
-
-// b less a, and 0 where a is more.
-fn difference(a: u32, b: u32) -> u32
-    ensures { result ≡ b - a }
-{
-    if a <= b {
-        return b - a;
-    }
-    0
+    starts.len()
 }
 
 fn put_gap(last: u32, next: u32, out: &mut [u32], m: usize) -> usize
@@ -132,7 +104,7 @@ fn put_gap(last: u32, next: u32, out: &mut [u32], m: usize) -> usize
     ensures { Put (gap last next) m out.old result out.new }
 {
     if last <= 65535 {
-        out[m] = difference(last, next);
+        out[m] = next.saturating_sub(last);
         return m + 1;
     }
     m
@@ -149,48 +121,32 @@ fn put_step(last: u32, x: u32, out: &mut [u32], m: usize) -> usize
 }
 
 // The state counts of the modes; `last` is the start that waits for the one behind it.
-fn put_counts(room: &[u32], at: usize, count: usize, states: u32, out: &mut [u32]) -> usize
-    requires within { at + count ≤ length room.now }
-    requires fits { 0 + length (counts_of states (numbers room.now count at)) ≤ length out.old }
-    ensures { Put (counts_of states (numbers room.now count at)) 0 out.old result out.new }
+fn put_counts(starts: &[u32], states: u32, out: &mut [u32]) -> usize
+    requires { 0 + length (counts_of states starts.now) ≤ length out.old }
+    ensures { Put (counts_of states starts.now) 0 out.old result out.new }
 {
-    let mut left = count;
-    let mut here = at;
     let mut m = 0;
     let mut last = NONE;
-    while 0 < left {
-        m = put_step(last, room[here], out, m);
-        last = later_of(last, room[here]);
-        here += 1;
-        left -= 1;
+    for start in starts {
+        m = put_step(last, *start, out, m);
+        last = later_of(last, *start);
     }
     put_gap(last, states, out, m)
 }
 
-// The state counts of `count` modes from `at`, into a buffer of zeros.
-fn counts_into(room: &[u32], at: usize, count: usize, states: u32, out: &mut [u32]) -> Written
-    requires within { at + count ≤ length room.now }
-    requires clear { out.old ≡ zeros (length out.old) }
-    ensures { Writes result (length out.old) out.new
-        (counts_for (length out.old) states (numbers room.now count at)) }
+// The state counts of modes with these starts, into a buffer of zeros.
+fn counts_into(starts: &[u32], states: u32, out: &mut [u32]) -> Written
+    requires { out.old ≡ zeros (length out.old) }
+    ensures { Writes result (length out.old) out.new (counts_for (length out.old) states starts.now) }
 {
-    let compiled = compiled_count(room, at, count);
-    if out.len() < compiled {
-        return Written::Refused(Refusal {
-            number: ROOM,
-            item: 0,
-            place: 0,
-        });
+    if out.len() < compiled_count(starts) {
+        return refuse(ROOM, 0);
     }
-    let place = first_descent(room, at, count);
-    if place < count {
-        return Written::Refused(Refusal {
-            number: ORDER,
-            item: 0,
-            place,
-        });
+    let place = first_descent(starts);
+    if place < starts.len() {
+        return refuse(ORDER, place);
     }
-    Written::Numbers(put_counts(room, at, count, states, out))
+    Written::Numbers(put_counts(starts, states, out))
 }
 
 fn limit_of(states: u32) -> u32
@@ -207,12 +163,8 @@ fn counts_with(room: &[u32], states: u32, out: &mut [u32]) -> Written
     ensures { Writes result (length out.old) out.new (counts_with room.now (length out.old) states) }
 {
     match look_modes::find_modes(room, limit_of(states)) {
-        Ok(modes) => counts_into(room, modes.from, modes.length, states, out),
-        Err(_) => Written::Refused(Refusal {
-            number: NOT_TABLE,
-            item: 0,
-            place: 0,
-        }),
+        Ok(modes) => counts_into(&room[modes.from..modes.from + modes.length], states, out),
+        Err(_) => refuse(NOT_TABLE, 0),
     }
 }
 
@@ -223,15 +175,7 @@ pub fn mode_state_counts(room: &[u32], out: &mut [u32]) -> Written
     buffer::clear(out);
     match look_modes::state_count(room) {
         Ok(states) => counts_with(room, states, out),
-        Err(Missing::Absent) => Written::Refused(Refusal {
-            number: STATE,
-            item: 0,
-            place: 0,
-        }),
-        Err(Missing::Outside) => Written::Refused(Refusal {
-            number: NOT_TABLE,
-            item: 0,
-            place: 0,
-        }),
+        Err(Missing::Absent) => refuse(STATE, 0),
+        Err(Missing::Outside) => refuse(NOT_TABLE, 0),
     }
 }

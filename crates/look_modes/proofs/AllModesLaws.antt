@@ -12,6 +12,7 @@ use Rattle.std.specs.Prelude.{Result, Ok, Err}
 use Rattle.room_find.specs.declared.Missing.{Missing}
 use Rattle.room_find.specs.declared.Missing.TheVariants.{Outside}
 use Rattle.room_find.specs.declared.Span.{Span}
+use Rattle.look_modes.proofs.Tests.{every_part, some_part}
 use Rattle.look_modes.specs.Modes.{numbers, up_to, modes_up_to}
 
 -- all modes that are found lie in the room
@@ -52,3 +53,6 @@ modes_missed w limit {m} =
     go true true false d e t h = cc
     go true false c d e t h = cc
     go false b c d e t h = cc
+
+-- where what is found lies, that what is refused leads outside, and what the tests of a part say
+pub ruleset chain = (modes_lie, modes_missed, every_part, some_part)

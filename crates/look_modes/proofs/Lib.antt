@@ -2,4 +2,3 @@ pub mod Numbers
 pub mod StartLaws
 pub mod Tests
 pub mod AllModesLaws
-pub mod CompiledLaws

@@ -1,26 +1,28 @@
--- The laws of the loops that test starts one after the other. Assumes nothing.
-use Prim.Native.Nat.{ℕ, ◌+◌, ◌-◌, ◌<◌, ◌≤◌}
-use mathlib.Core.Path.{◌≡◌, sym, ◌∙◌}
-use mathlib.Core.Bool.{Bool, true, false}
-use mathlib.Core.List.{List}
-use lib.ListN.{get_or}
-use borrow.Author.Rules.{rules}
-use Rattle.refusal.specs.Lists.{every}
+-- Tests of the numbers of a part of the room: by the part itself, and one after the other. Assumes nothing.
+use Prim.Native.Nat.{ℕ, ◌+◌, ◌-◌, ◌≤◌}
+use native.Mathlib.Omega.{arith}
+use mathlib.Core.Path.{◌≡◌, refl}
+use mathlib.Core.Bool.{Bool}
+use mathlib.Core.List.{List, [], ◌∷◌}
+use lib.ListN.{length, take, drop}
+use Rattle.std.specs.List.{list_all, list_any}
+use Rattle.refusal.specs.Lists.{every, some}
 use Rattle.look_modes.specs.Modes.{numbers}
-use Rattle.look_modes.proofs.Numbers.{numbers_open, numbers_done}
+use Rattle.look_modes.proofs.Numbers.{numbers_part}
 
--- a test of each: it holds and the others are left, or it fails, or none is left
-module _ (p : ℕ → Bool) (w : List ℕ) (left here : ℕ) {all : Bool} (i : every p (numbers w left here) ≡ all) where
-  pub every_turn : {t : Bool} → 0 < left → t ≡ p (get_or w here 0) → t ≡ true → every p (numbers w (left - 1) (here + 1)) ≡ all
-  unfolding every
-  every_turn h g e = let q : p (get_or w here 0) ≡ true = sym g ∙ e in rw (numbers_open w left here h, q) at i
+every_all : (p : ℕ → Bool) (l : List ℕ) → every p l ≡ list_all p l
+unfolding every
+every_all p [] = refl
+every_all p (x ∷ l) = rw (every_all p l)
 
-  pub every_stop : {t : Bool} → 0 < left → t ≡ p (get_or w here 0) → t ≡ false → false ≡ all
-  unfolding every
-  every_stop h g e = let q : p (get_or w here 0) ≡ false = sym g ∙ e in rw (numbers_open w left here h, q) at i
+some_any : (p : ℕ → Bool) (l : List ℕ) → some p l ≡ list_any p l
+unfolding some
+some_any p [] = refl
+some_any p (x ∷ l) = rw (some_any p l)
 
-  pub every_done : left ≤ 0 → true ≡ all
-  unfolding every
-  every_done h = rw (numbers_done w left here h) at i
+module _ (p : ℕ → Bool) (w : List ℕ) (at n : ℕ) (h : at + n ≤ length w) where
+  pub every_part : every p (numbers w n at) ≡ list_all p (take (at + n - at) (drop at w))
+  every_part = let e : at + n - at ≡ n = omega arith in rw (e, numbers_part w n at h) (every_all p (take n (drop at w)))
 
-pub ruleset testing = (rules, every_turn, every_stop, every_done)
+  pub some_part : some p (numbers w n at) ≡ list_any p (take (at + n - at) (drop at w))
+  some_part = let e : at + n - at ≡ n = omega arith in rw (e, numbers_part w n at h) (some_any p (take n (drop at w)))

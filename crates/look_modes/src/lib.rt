@@ -1,11 +1,11 @@
 // Where a mode starts, how many states there are, and whether any mode is compiled. The room may be of any length and hold any numbers.
-#![tactic(auto, using(crate::proofs::StartLaws::chain, crate::proofs::CompiledLaws::chain), unfolding(crate::specs::Start::mode_at, crate::specs::Modes::state_count, crate::specs::Modes::modes_up_to, crate::specs::Modes::of_modes, room_find::specs::Room::follow))]
+#![tactic(auto, using(crate::proofs::StartLaws::chain, crate::proofs::AllModesLaws::chain), unfolding(crate::specs::Start::mode_at, crate::specs::Modes::state_count, crate::specs::Modes::modes_up_to, crate::specs::Modes::of_modes, room_find::specs::Room::follow))]
 
 ghost use Rattle.std.specs.Prelude.{◌≡◌, ◌+◌, ◌≤◌, length};
 ghost use Rattle.room_find.specs.Answer as answer;
 ghost use Rattle.look_modes.specs.Start.{said, started, mode_in, mode_at, mode_start, compiled};
-ghost use Rattle.look_modes.specs.Modes.{count_in, state_count, numbers, up_to, modes_with, modes_in, modes_up_to, compiled_said, has_compiled_modes};
-ghost use Rattle.refusal.specs.Lists.{every, some};
+ghost use Rattle.look_modes.specs.Modes.{count_in, state_count, up_to, modes_with, modes_in, modes_up_to, compiled_said, has_compiled_modes};
+ghost use Rattle.std.specs.List.{list_all, list_any};
 
 use refusal::{CONTINUATIONS_START, MODES_START, NONE, RUNS_START, STATES_START};
 use room_find::{Missing, Span};
@@ -80,22 +80,11 @@ fn up_to(limit: u32, x: u32) -> bool
     (x <= limit) | (x == NONE)
 }
 
-// No start of the modes is past the limit.
-fn all_up_to(room: &[u32], at: usize, count: usize, limit: u32) -> bool
-    requires { at + count ≤ length room.now }
-    ensures { result ≡ every (up_to limit) (numbers room.now count at) }
+// No start is past the limit.
+fn all_up_to(starts: &[u32], limit: u32) -> bool
+    ensures { result ≡ list_all (up_to limit) starts.now }
 {
-    let mut left = count;
-    let mut here = at;
-    while 0 < left {
-        if up_to(limit, room[here]) {
-            here += 1;
-            left -= 1;
-        } else {
-            return false;
-        }
-    }
-    true
+    starts.iter().all(|start| up_to(limit, *start))
 }
 
 fn modes_with(room: &[u32], start: u32, end: u32, count: u32, limit: u32) -> Result<Span, Missing>
@@ -104,8 +93,10 @@ fn modes_with(room: &[u32], start: u32, end: u32, count: u32, limit: u32) -> Res
 {
     let from = (start as usize) + 1;
     let length = count as usize;
-    if length + (start as usize) < (end as usize) && all_up_to(room, from, length, limit) {
-        return Ok(Span { from, length });
+    if length + (start as usize) < (end as usize) {
+        if all_up_to(&room[from..from + length], limit) {
+            return Ok(Span { from, length });
+        }
     }
     Err(Missing::Outside)
 }
@@ -129,21 +120,11 @@ pub fn find_modes(room: &[u32], limit: u32) -> Result<Span, Missing>
     Err(Missing::Outside)
 }
 
-// Some start of the modes is a state.
-fn some_compiled(room: &[u32], at: usize, count: usize) -> bool
-    requires { at + count ≤ length room.now }
-    ensures { result ≡ some compiled (numbers room.now count at) }
+// Some start is a state.
+fn some_compiled(starts: &[u32]) -> bool
+    ensures { result ≡ list_any compiled starts.now }
 {
-    let mut left = count;
-    let mut here = at;
-    while 0 < left {
-        if room[here] <= 65535 {
-            return true;
-        }
-        here += 1;
-        left -= 1;
-    }
-    false
+    starts.iter().any(|start| *start <= 65535)
 }
 
 // Whether at least one mode is compiled.
@@ -151,5 +132,5 @@ pub fn has_compiled_modes(room: &[u32]) -> Result<bool, Missing>
     ensures { compiled_said result ≡ has_compiled_modes room.now }
 {
     let modes = find_modes(room, 65535)?;
-    Ok(some_compiled(room, modes.from, modes.length))
+    Ok(some_compiled(&room[modes.from..modes.from + modes.length]))
 }

@@ -1,12 +1,14 @@
--- Each answer goes on from what was found.
 use Rattle.look_mode_lists.proofs.Answers.{answers}
 use Rattle.look_mode_lists.proofs.counts_with.Goals as goal
 
-pub counts_into-requires : goal.counts_into-requires
-counts_into-requires c = search answers
+pub overflow_add-modes : goal.overflow_add-modes
+overflow_add-modes c = search answers
 
-pub shape_of-out : goal.shape_of-out
-shape_of-out c = search answers
+pub offset_bounds-room-modes : goal.offset_bounds-room-modes
+offset_bounds-room-modes c = search answers
+
+pub slice_bounds-counts_into-end : goal.slice_bounds-counts_into-end
+slice_bounds-counts_into-end c = search answers
 
 pub returns-in-Ok : goal.returns-in-Ok
 returns-in-Ok c = search answers

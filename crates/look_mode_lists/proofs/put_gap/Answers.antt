@@ -2,9 +2,6 @@
 use Rattle.look_mode_lists.proofs.Gaps.{stepping}
 use Rattle.look_mode_lists.proofs.put_gap.Goals as goal
 
-pub difference-requires : goal.difference-requires
-difference-requires c = search stepping
-
 pub offset_bounds-out-m : goal.offset_bounds-out-m
 offset_bounds-out-m c = search stepping
 
