@@ -1,7 +1,7 @@
 // The accepts of a decoded table, for C and Rust: the number of a state's accept, the record of it, and where its actions stand. The room
 // passes as pointer and length, answers come back as structs. A number of 0 says answered; else it is document 01's refusal, and every
 // other field is 0.
-#![tactic(auto)]
+#![tactic(auto, using(crate::proofs::Calls::calling))]
 
 ghost use Rattle.std.specs.Prelude.{◌≡◌};
 ghost use Rattle.look_accepts.specs.Accept as accepting;
@@ -12,7 +12,7 @@ ghost use Rattle.c_accepts.specs.Answers.{accept_in_c};
 use c_value::CValue;
 use look_accepts::AcceptRecord;
 use refusal::NOT_TABLE;
-use room_find::Span;
+use room_find::{Missing, Span};
 
 // The number of a state's accept, or NONE.
 #[unsafe(no_mangle)]
@@ -33,29 +33,25 @@ pub struct CAccept {
     pub actions: u32,
 }
 
-fn accept_in_c(got: AcceptRecord) -> CAccept
+fn accept_in_c(got: Result<AcceptRecord, Missing>) -> CAccept
     ensures { result ≡ accept_in_c (recorded.said got) }
 {
     match got {
-        AcceptRecord::Record {
-            rule,
-            consumed_eof,
-            actions,
-        } => CAccept {
+        Ok(accept) => CAccept {
             number: 0,
             found: 1,
-            rule,
-            consumed_eof: consumed_eof as u32,
-            actions,
+            rule: accept.rule,
+            consumed_eof: accept.consumed_eof as u32,
+            actions: accept.actions,
         },
-        AcceptRecord::NoRecord => CAccept {
+        Err(Missing::Absent) => CAccept {
             number: 0,
             found: 0,
             rule: 0,
             consumed_eof: 0,
             actions: 0,
         },
-        AcceptRecord::NotTable => CAccept {
+        Err(Missing::Outside) => CAccept {
             number: NOT_TABLE,
             found: 0,
             rule: 0,

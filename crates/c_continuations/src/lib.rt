@@ -1,7 +1,7 @@
 // The continuations of a decoded table, for C and Rust: the number of a state's continuation, the record of it, and where its contexts and
 // configs stand. The room passes as pointer and length, answers come back as structs. A number of 0 says answered; else it is document 01's
 // refusal, and every other field is 0.
-#![tactic(auto)]
+#![tactic(auto, using(crate::proofs::Calls::calling))]
 
 ghost use Rattle.std.specs.Prelude.{◌≡◌};
 ghost use Rattle.look_continuations.specs.Continuation as continuing;
@@ -12,7 +12,7 @@ ghost use Rattle.c_continuations.specs.Answers.{continuation_in_c};
 use c_value::CValue;
 use look_continuation_records::ContinuationRecord;
 use refusal::NOT_TABLE;
-use room_find::Span;
+use room_find::{Missing, Span};
 
 // The number of a state's continuation on a character, or NONE.
 #[unsafe(no_mangle)]
@@ -40,23 +40,23 @@ pub struct CContinuation {
     pub configs: u32,
 }
 
-fn continuation_in_c(got: ContinuationRecord) -> CContinuation
+fn continuation_in_c(got: Result<ContinuationRecord, Missing>) -> CContinuation
     ensures { result ≡ continuation_in_c (resumed.said got) }
 {
     match got {
-        ContinuationRecord::Record { contexts, configs } => CContinuation {
+        Ok(record) => CContinuation {
             number: 0,
             found: 1,
-            contexts,
-            configs,
+            contexts: record.contexts,
+            configs: record.configs,
         },
-        ContinuationRecord::NoRecord => CContinuation {
+        Err(Missing::Absent) => CContinuation {
             number: 0,
             found: 0,
             contexts: 0,
             configs: 0,
         },
-        ContinuationRecord::NotTable => CContinuation {
+        Err(Missing::Outside) => CContinuation {
             number: NOT_TABLE,
             found: 0,
             contexts: 0,

@@ -1,6 +1,6 @@
 // The modes of a decoded table and its count of states, for C and Rust: the room passes as pointer and length, answers come back as structs.
 // A number of 0 says answered; else it is document 01's refusal, and the value is 0.
-#![tactic(auto)]
+#![tactic(auto, using(crate::proofs::Calls::looking))]
 
 ghost use Rattle.std.specs.Prelude.{◌≡◌};
 ghost use Rattle.look_modes.specs.Start as starting;
@@ -8,22 +8,13 @@ ghost use Rattle.look_modes.specs.Modes as moding;
 ghost use Rattle.c_value.specs.Value.{value_in_c};
 
 use c_value::CValue;
-use look_modes::{Compiled, Start};
-use refusal::{NONE, NOT_TABLE};
+use refusal::NONE;
+use room_find::Missing;
 
-fn compiled_in_c(compiled: Compiled) -> CValue
+fn compiled_in_c(compiled: Result<bool, Missing>) -> CValue
     ensures { result ≡ value_in_c (moding.compiled_said compiled) }
 {
-    match compiled {
-        Compiled::Modes(some) => CValue {
-            value: some as u32,
-            number: 0,
-        },
-        Compiled::NotTable => CValue {
-            value: 0,
-            number: NOT_TABLE,
-        },
-    }
+    c_value::value_in_c(compiled.map(|some| some as u32))
 }
 
 // Whether some mode is compiled: 1 or 0.
@@ -42,23 +33,10 @@ pub extern "C" fn lexer_dfa_state_count(room: &[u32]) -> CValue
     c_value::value_in_c(look_modes::state_count(room))
 }
 
-fn start_in_c(start: Start) -> CValue
+fn start_in_c(start: Result<Option<u16>, Missing>) -> CValue
     ensures { result ≡ value_in_c (starting.said start) }
 {
-    match start {
-        Start::At(s) => CValue {
-            value: s as u32,
-            number: 0,
-        },
-        Start::Nowhere => CValue {
-            value: NONE,
-            number: 0,
-        },
-        Start::NotTable => CValue {
-            value: 0,
-            number: NOT_TABLE,
-        },
-    }
+    c_value::value_in_c(start.map(|at| at.map_or(NONE, u32::from)))
 }
 
 // The start of a mode, whose number is a 32-bit word in two's complement; NONE where it has none.

@@ -9,7 +9,7 @@ ghost use Rattle.c_value.specs.Written.{written_in_c};
 
 use buffer::Written;
 use refusal::{NOT_TABLE, STATE};
-use room_find::Answer;
+use room_find::Missing;
 
 // What a lookup answers, in one register with the value in its low half. A lookup's refusal has place 0, which is left out.
 #[repr(C)]
@@ -20,16 +20,16 @@ pub struct CValue {
 }
 
 // What is told of a state, in C.
-pub fn value_in_c(answer: Answer) -> CValue
+pub fn value_in_c(answer: Result<u32, Missing>) -> CValue
     ensures { result ≡ value_in_c (said answer) }
 {
     match answer {
-        Answer::Number(value) => CValue { value, number: 0 },
-        Answer::NoState => CValue {
+        Ok(value) => CValue { value, number: 0 },
+        Err(Missing::Absent) => CValue {
             value: 0,
             number: STATE,
         },
-        Answer::NotTable => CValue {
+        Err(Missing::Outside) => CValue {
             value: 0,
             number: NOT_TABLE,
         },

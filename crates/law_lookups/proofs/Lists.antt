@@ -5,8 +5,8 @@ use mathlib.Core.Path.{◌≡◌, ap, ◌∙◌}
 use mathlib.Core.List.{List}
 use lib.ListN.{length, get_or, take}
 use borrow.Author.Tests.{lt-ltb}
-use Rattle.room_find.specs.declared.Found.{Found}
-use Rattle.room_find.specs.declared.Found.TheVariants as place
+use Rattle.room_find.specs.declared.Missing.{Missing}
+use Rattle.std.specs.Prelude.{Ok, Result}
 use Rattle.refusal.specs.Header.{RUNS-START, WIDE-START, ACCEPTS-START, ESCAPES-START, CONTINUATIONS-START}
 use Rattle.refusal.specs.Lists.{each}
 use Rattle.room_find.specs.Room.{listed_in, words_end, end_of, past_lists, listed_at}
@@ -18,18 +18,18 @@ use Rattle.law_lookups.proofs.Held.{Held}
 -- a record that a list of places leads to
 pub listed_is : {A : Type 0} {w : List ℕ} {s e list : ℕ} {f : A → List ℕ} {xs : List A} (z : Section w s e f xs) (l : Listed w s list f xs) (i : ℕ) (d : A)
     → i < length xs → 0 < length (f (get_or xs i d))
-    → (p : ℕ) × (listed_in w s e i list ≡ place.At p) × Within w e p (f (get_or xs i d))
+    → (p : ℕ) × (listed_in w s e i list ≡ Ok p) × Within w e p (f (get_or xs i d))
 listed_is {w = w} {s} {e} {list} {f} {xs} z l i d h m =
     let r = recorded z i d h in
     let p = s + 1 + length (each f (take i xs)) in
     let q : get_or w (list + i) 0 ≡ p = l.leads i h in
     let c : i < get_or w s 0 = omega (arith, counts z) in
-    (p, listed-there w s e (opens z) (inside z) i list c (omega (arith, l.there)) (omega arith) (omega (arith, r.ends)) ∙ ap place.At q, r)
+    (p, listed-there w s e (opens z) (inside z) i list c (omega (arith, l.there)) (omega arith) (omega (arith, r.ends)) ∙ ap Ok q, r)
 
 -- Where each list stands in the room of a table
 
 module _ (t : Table) (w : List ℕ) (k : Held t w) (i : ℕ) where
-  abbrev from : ℕ → ℕ → Found
+  abbrev from : ℕ → ℕ → Result ℕ Missing
   from s list = listed_in w (get_or w s 0) (end_of w s) i list
 
   -- the counts that are read on the way lie in the room

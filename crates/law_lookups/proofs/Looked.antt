@@ -12,8 +12,9 @@ use borrow.Author.Tests.{le-leb, lt-ltb, le-ltb, ne_eqb, ltb-true, ltb-false}
 use Rattle.refusal.specs.Said.{Said, ok, no, STATE, NOT-TABLE}
 use Rattle.refusal.specs.Fixed.{NONE, DEAD-STATE}
 use Rattle.refusal.specs.Lists.{pick, each}
-use Rattle.room_find.specs.declared.Found.TheVariants as place
-use Rattle.look_row.specs.declared.Hit.TheVariants as hit
+use Rattle.std.specs.Prelude.{Result, Some, None, Ok, Err}
+use Rattle.room_find.specs.declared.Missing.{Missing}
+use Rattle.room_find.specs.declared.Missing.TheVariants.{Absent}
 use Rattle.refusal.specs.Header.{MODES-START, STATES-START, RUNS-START, ASCII-START, WIDE-START, ACCEPTS-START, ESCAPES-START, CONTINUATIONS-START}
 use Rattle.room_find.specs.Room as rooms
 use Rattle.room_find.specs.Room.{listed_at, state_at, follow}
@@ -61,7 +62,7 @@ all_map P Q f (x ∷ xs) h = (f x h.0, all_map P Q f xs h.1)
 -- a search of a row that stands in the room, where each goal is answered as it is
 module _ (w : List ℕ) (x : ℕ) (f : ℕ → Said) (other : ℕ) (o : Said) where
   found_goal : (rs : List Range) (at : ℕ) (post : List ℕ) → All (λ r. f r.goal ≡ ok (r.goal ∷ [])) rs → At w at (each range_words rs ++ post)
-      → given (found w x (length rs) at) f (ok (other ∷ [])) o ≡ ok (goal_at other rs x ∷ [])
+      → given (Ok (found w x (length rs) at)) f (ok (other ∷ [])) o ≡ ok (goal_at other rs x ∷ [])
   unfolding found given goal_at each All
   found_goal [] at post v a = refl
   found_goal (r ∷ rs) at post v a =
@@ -69,8 +70,8 @@ module _ (w : List ℕ) (x : ℕ) (f : ℕ → Said) (other : ℕ) (o : Said) wh
       let goal : get_or w (at + 2) 0 ≡ r.goal = at_head (on (r.low ∷ r.high ∷ []) _ a) in
       rw (at_head a, high, goal) (go (leb x r.high) (leb r.low x) (found_goal rs (at + 3) post v.1 (on (range_words r) (each range_words rs ++ post) a)))
     where
-      go : (b c : Bool) → given (found w x (length rs) (at + 3)) f (ok (other ∷ [])) o ≡ ok (goal_at other rs x ∷ [])
-          → given (pick b (pick c (hit.Third r.goal) hit.Gap) (found w x (length rs) (at + 3))) f (ok (other ∷ [])) o
+      go : (b c : Bool) → given (Ok (found w x (length rs) (at + 3))) f (ok (other ∷ [])) o ≡ ok (goal_at other rs x ∷ [])
+          → given (Ok (pick b (pick c (Some r.goal) None) (found w x (length rs) (at + 3)))) f (ok (other ∷ [])) o
           ≡ ok (pick b (pick c r.goal other) (goal_at other rs x) ∷ [])
       go true true e = v.0
       go true false e = refl
@@ -101,11 +102,11 @@ module _ (t : Table) (h : Fields t) (r : Rules t) (w : List ℕ) (k : Held t w) 
       let p : get_or w STATES-START 0 + 1 + length (each state_words (take s t.states)) ≡ s * 4 + get_or w STATES-START 0 + 1 = omega (arith, n) in
       subst (λ m. Within w (get_or w RUNS-START 0) m (state_words (state_of t s))) p (recorded k.states s absent l)
 
-  pub state_at_lem : (s : ℕ) → s < length t.states → state_at w s ≡ place.At (s * 4 + get_or w STATES-START 0 + 1)
+  pub state_at_lem : (s : ℕ) → s < length t.states → state_at w s ≡ Ok (s * 4 + get_or w STATES-START 0 + 1)
   state_at_lem s l =
       state_there w k.long (opens k.states) (inside k.states) s (omega (arith, counts k.states)) (omega (arith, (state_place s l).ends))
 
-  pub state_none : (s : ℕ) → length t.states ≤ s → state_at w s ≡ place.Absent
+  pub state_none : (s : ℕ) → length t.states ≤ s → state_at w s ≡ Err Absent
   state_none s l = state_absent w k.long (opens k.states) (inside k.states) s (omega (arith, counts k.states))
 
   -- what is said of a state that is there, and STATE of one that is not
@@ -160,7 +161,7 @@ module _ (t : Table) (h : Fields t) (r : Rules t) (w : List ℕ) (k : Held t w) 
       let p : get_or w MODES-START 0 + 1 + length (each mode_words (take m t.modes)) ≡ m * 1 + get_or w MODES-START 0 + 1 = omega (arith, n) in
       subst (λ i. Within w (get_or w STATES-START 0) i (mode_words (get_or t.modes m NONE))) p (recorded k.modes m NONE l)
 
-  mode_at_lem : (m : ℕ) → m < length t.modes → mode_at w m ≡ place.At (m * 1 + get_or w MODES-START 0 + 1)
+  mode_at_lem : (m : ℕ) → m < length t.modes → mode_at w m ≡ Ok (m * 1 + get_or w MODES-START 0 + 1)
   unfolding mode_at
   mode_at_lem m l =
       let z = k.modes in
@@ -169,14 +170,14 @@ module _ (t : Table) (h : Fields t) (r : Rules t) (w : List ℕ) (k : Held t w) 
       (omega (arith, (mode_number m l).ends)) in
       simp (lt-ltb _ _ k.long, lt-ltb _ _ (opens z), le-leb _ _ (inside z), lt-ltb _ _ small, e)
 
-  mode_none : (m : ℕ) → length t.modes ≤ m → mode_at w m ≡ place.Absent
+  mode_none : (m : ℕ) → length t.modes ≤ m → mode_at w m ≡ Err Absent
   unfolding mode_at
   mode_none m l =
       let z = k.modes in
       let e = record_absent w (get_or w MODES-START 0) (get_or w STATES-START 0) (opens z) (inside z) m 1 (omega (arith, counts z)) in
       rw (lt-ltb _ _ k.long, lt-ltb _ _ (opens z), le-leb _ _ (inside z), e) (go (ltb m 2147483648))
     where
-      go : (b : Bool) → pick b place.Absent place.Absent ≡ place.Absent
+      go : (b : Bool) → ◌≡◌ {A = Result ℕ Missing} (pick b (Err Absent) (Err Absent)) (Err Absent)
       go true = refl
       go false = refl
 
@@ -208,7 +209,7 @@ module _ (t : Table) (h : Fields t) (r : Rules t) (w : List ℕ) (k : Held t w) 
         let p : get_or w ASCII-START 0 + 1 + length (each ascii_words (take row t.ascii)) ≡ row * 64 + get_or w ASCII-START 0 + 1 = omega (arith, n) in
         subst (λ i. Within w (get_or w WIDE-START 0) i words) p (recorded k.ascii row [] l)
 
-    row_at : ascii_row_at w row ≡ place.At (row * 64 + get_or w ASCII-START 0 + 1)
+    row_at : ascii_row_at w row ≡ Ok (row * 64 + get_or w ASCII-START 0 + 1)
     unfolding ascii_row_at
     row_at =
         let z = k.ascii in
@@ -256,7 +257,7 @@ module _ (t : Table) (h : Fields t) (r : Rules t) (w : List ℕ) (k : Held t w) 
 
   -- the list of places leads to a wide row
   pub wide_row_lem : (row : ℕ) → row < length t.wide
-      → (p : ℕ) × (wide_row_at w row ≡ place.At p) × Within w (get_or w ACCEPTS-START 0) p (wide_words (get_or t.wide row []))
+      → (p : ℕ) × (wide_row_at w row ≡ Ok p) × Within w (get_or w ACCEPTS-START 0) p (wide_words (get_or t.wide row []))
   wide_row_lem row l = let q = listed_is k.wide k.wide_places row [] l (omega arith) in (q.0, wide_listed t w k row ∙ q.1, q.2)
 
   wide_target_lem : (row : ℕ) → row < length t.wide → (x : ℕ) → wide_target w row x ≡ ok (goal_at DEAD-STATE (get_or t.wide row []) x ∷ [])
@@ -285,7 +286,7 @@ module _ (t : Table) (h : Fields t) (r : Rules t) (w : List ℕ) (k : Held t w) 
 
   -- and to the escape row of a state
   escape_row : (s : ℕ) → s < length t.states
-      → (p : ℕ) × (listed_at w ESCAPES-START s ≡ place.At p) × Within w (get_or w CONTINUATIONS-START 0) p (escape_words (escape_of t s))
+      → (p : ℕ) × (listed_at w ESCAPES-START s ≡ Ok p) × Within w (get_or w CONTINUATIONS-START 0) p (escape_words (escape_of t s))
   escape_row s l =
       let q = listed_is k.escapes k.escape_places s (record { eof = NONE; ranges = [] }) (omega (arith, r.rule7)) (omega arith) in
       (q.0, escapes_listed t w k s ∙ q.1, q.2)

@@ -11,7 +11,8 @@ use borrow.Author.Tests.{le-leb, lt-ltb, ltb-true, ltb-false}
 use Rattle.refusal.specs.Said.{ok, no, NOT-TABLE}
 use Rattle.refusal.specs.Lists.{pick, each}
 use Rattle.room_fill.specs.Room.{flag}
-use Rattle.room_find.specs.declared.Found.TheVariants as place
+use Rattle.std.specs.Prelude.{Ok, Err}
+use Rattle.room_find.specs.declared.Missing.TheVariants.{Absent}
 use Rattle.refusal.specs.Header.{ACCEPTS-START, ESCAPES-START, CONTINUATIONS-START}
 use Rattle.room_find.specs.Room.{words_end, listed_at, follow}
 use Rattle.room_find.proofs.There.{listed-absent}
@@ -41,9 +42,9 @@ flag-told x = go (eqb x 0)
 
 -- where n configs end, which stand one behind the other
 past_configs_lem : (w : List ℕ) (e : ℕ) (xs : List Config) (p : ℕ) (post : List ℕ) → At w p (each config_words xs ++ post) → p + length (each config_words xs) ≤ e
-    → configs.past_configs w e (length xs) p ≡ place.At (p + length (each config_words xs))
+    → configs.past_configs w e (length xs) p ≡ Ok (p + length (each config_words xs))
 unfolding configs.past_configs configs.past_config follow each
-past_configs_lem w e [] p post a l = ap place.At (omega arith)
+past_configs_lem w e [] p post a l = ap Ok (omega arith)
 past_configs_lem w e (x ∷ xs) p post a l =
     let here = config_words x in
     let rest = each config_words xs in
@@ -57,13 +58,13 @@ past_configs_lem w e (x ∷ xs) p post a l =
     let q : p + length here ≡ length x.actions * 3 + (p + 6) = omega arith in
     let c = to (on here (rest ++ post) b) q in
     let g : length x.actions * 3 + (p + 6) + length rest ≡ p + length (here ++ rest) = omega arith in
-    rw (lt-ltb _ _ i, n, le-leb _ _ j) (past_configs_lem w e xs (length x.actions * 3 + (p + 6)) post c (omega arith) ∙ ap place.At g)
+    rw (lt-ltb _ _ i, n, le-leb _ _ j) (past_configs_lem w e xs (length x.actions * 3 + (p + 6)) post c (omega arith) ∙ ap Ok g)
 
 module _ (t : Table) (w : List ℕ) (k : Held t w) where
   -- Accepts
 
   module _ (i : ℕ) where
-    accept-there : i < length t.accepts → (p : ℕ) × (accepts.record_at w i ≡ place.At p) × Within w (get_or w ESCAPES-START 0) p (accept_kept (accept t i))
+    accept-there : i < length t.accepts → (p : ℕ) × (accepts.record_at w i ≡ Ok p) × Within w (get_or w ESCAPES-START 0) p (accept_kept (accept t i))
     unfolding accepts.record_at accepts.whole_to follow
     accept-there l =
         let q = listed_is k.accepts k.accept-places i (record { rule = 0; consumed = 0; actions = [] }) l (omega arith) in
@@ -77,7 +78,7 @@ module _ (t : Table) (w : List ℕ) (k : Held t w) where
         let b : length x.actions * 3 + (p + 2) < get_or w ESCAPES-START 0 = omega (arith, z.ends, m) in
         (p, (rw (accepts_listed t w k i ∙ q.1, lt-ltb _ _ a, n, lt-ltb _ _ b)), z)
 
-    accept-absent : length t.accepts ≤ i → accepts.record_at w i ≡ place.Absent
+    accept-absent : length t.accepts ≤ i → accepts.record_at w i ≡ Err Absent
     unfolding accepts.record_at follow
     accept-absent l =
         let z = k.accepts in
@@ -132,7 +133,7 @@ module _ (t : Table) (w : List ℕ) (k : Held t w) where
       abbrev x : Continuation
       x = continuation t i
 
-      listed-there : (p : ℕ) × (listed_at w CONTINUATIONS-START i ≡ place.At p) × Within w (words_end w) p (continuation_kept x)
+      listed-there : (p : ℕ) × (listed_at w CONTINUATIONS-START i ≡ Ok p) × Within w (words_end w) p (continuation_kept x)
       listed-there =
           let q = listed_is k.continuations k.continuation-places i (record { contexts = []; configs = [] }) l
           (omega (arith, length-append (counted context_words x.contexts) (counted config_words (map normal_config x.configs)))) in

@@ -16,7 +16,7 @@ use Rattle.run_shape.specs.Shape.{Shape, none, any, until, ranges, Got, run, ref
 use Rattle.run_shape.specs.Words.{read_at}
 use Rattle.run_shape.specs.Scan.{skipped, scan_said, scanned_by}
 use Rattle.run_shape.specs.Classify.{classification}
-use Rattle.room_find.specs.declared.Found.TheVariants as place
+use Rattle.std.specs.Prelude.{Ok}
 use Rattle.room_find.specs.Room.{follow}
 use Rattle.look_runs.specs.RunPlaces.{run_place}
 use Rattle.look_runs.specs.StateRun.{run_in, run_of, ascii_run, skipped_by}
@@ -69,7 +69,7 @@ module _ (t : Table) (h : Fields t) (r : Rules t) (w : List ℕ) (k : Held t w) 
     shaped = get_or t.runs s none
 
     -- the list of places leads to the run
-    run_at : (p : ℕ) × (run_place w s ≡ place.At p) × Within w (get_or w ASCII-START 0) p (run_words shaped)
+    run_at : (p : ℕ) × (run_place w s ≡ Ok p) × Within w (get_or w ASCII-START 0) p (run_words shaped)
     run_at = let q = listed_is k.runs k.run_places s none there (run_word shaped) in (q.0, runs_listed t w k s ∙ q.1, q.2)
 
     -- rule 4

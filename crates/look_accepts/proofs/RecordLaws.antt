@@ -7,24 +7,23 @@ use lib.Dec.{ltb}
 use lib.ListN.{length, get_or}
 use mir.Syntax.{w64}
 use mir.Val.{Fits}
-use borrow.Author.Rules.{rules}
-use borrow.Author.Tests.{lt-ltb, le-ltb, ltb-true}
-use Rattle.room_find.specs.declared.Found.{Found}
-use Rattle.room_find.specs.declared.Found.TheVariants.{At, Absent, Outside}
+use borrow.Author.Tests.{ltb-true}
+use Rattle.std.specs.Prelude.{Result, Ok, Err}
+use Rattle.room_find.specs.declared.Missing.{Missing}
+use Rattle.room_find.specs.declared.Missing.TheVariants.{Absent, Outside}
 use Rattle.room_find.specs.Room.{listed_at, follow}
-use Rattle.room_find.proofs.Records.{held, listed_lies, oflist, there, absent, outside}
-use Rattle.room_find.proofs.Spans.{span-there, span-absent, span-outside}
+use Rattle.room_find.proofs.Records.{held, listed_lies, ofstate, oflist}
 use Rattle.look_accepts.specs.Record.{whole_to, record_at}
 
 -- one more test was passed
-followed : (x : Found) (k : ℕ → Found) {p : ℕ} → follow x k Absent Outside ≡ At p → (q : ℕ) × (x ≡ At q) × (k q ≡ At p)
+followed : (x : Result ℕ Missing) (k : ℕ → Result ℕ Missing) {p : ℕ} → follow x k (Err Absent) (Err Outside) ≡ Ok p → (q : ℕ) × (x ≡ Ok q) × (k q ≡ Ok p)
 unfolding follow
-followed (At q) k h = (q, refl, h)
-followed Absent k h = let z : ◌≡◌ {A = ℕ} 0 1 = cc in absurd (omega arith)
-followed Outside k h = let z : ◌≡◌ {A = ℕ} 0 1 = cc in absurd (omega arith)
+followed (Ok q) k h = (q, refl, h)
+followed (Err Absent) k h = let z : ◌≡◌ {A = ℕ} 0 1 = cc in absurd (omega arith)
+followed (Err Outside) k h = let z : ◌≡◌ {A = ℕ} 0 1 = cc in absurd (omega arith)
 
 -- the record lies in the room, whole
-pub whole : (w : List ℕ) (i : ℕ) {p : ℕ} → record_at w i ≡ At p → get_or w (p + 2) 0 * 3 + (p + 2) < length w
+pub whole : (w : List ℕ) (i : ℕ) {p : ℕ} → record_at w i ≡ Ok p → get_or w (p + 2) 0 * 3 + (p + 2) < length w
 unfolding record_at whole_to
 whole w i {p} h =
     let f = followed (listed_at w 6 i) (whole_to w (get_or w 7 0)) h in
@@ -36,7 +35,7 @@ whole w i {p} h =
     let b : get_or w (q + 2) 0 * 3 + (q + 2) < length w = omega (arith, ltb-true (get_or w (q + 2) 0 * 3 + (q + 2)) (get_or w 7 0) h₂.0) in
     rw e at b
 
-module _ (w : List ℕ) (i : ℕ) {p : ℕ} {got : Found} (g : got ≡ record_at w i) (e : got ≡ At p) where
+module _ (w : List ℕ) (i : ℕ) {p : ℕ} {got : Result ℕ Missing} (g : got ≡ record_at w i) (e : got ≡ Ok p) where
   pub record_first : p < length w
   record_first = omega (arith, whole w i (sym g ∙ e))
 
@@ -49,8 +48,5 @@ module _ (w : List ℕ) (i : ℕ) {p : ℕ} {got : Found} (g : got ≡ record_at
   pub record_bytes : length w * 4 < 2 ^ 63 → Fits w64 (p * 4)
   record_bytes l = record { fits = omega (arith, whole w i (sym g ∙ e)) }
 
--- by the tests on the way
-pub ruleset cases = (rules, lt-ltb, le-ltb)
-
--- by what is found
-pub ruleset chain = (rules, oflist, there, absent, outside, record_first, record_number, record_index, record_bytes, span-there, span-absent, span-outside)
+-- where what is found lies
+pub ruleset chain = (ofstate, oflist, record_first, record_number, record_index, record_bytes)

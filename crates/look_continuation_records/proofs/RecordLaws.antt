@@ -6,70 +6,45 @@ use mathlib.Core.List.{List}
 use lib.ListN.{length}
 use mir.Syntax.{w64}
 use mir.Val.{Fits}
-use borrow.Author.Rules.{rules}
-use Rattle.room_find.specs.declared.Span.{Span}
+use Rattle.std.specs.Prelude.{Result, Ok}
+use Rattle.room_find.specs.declared.Missing.{Missing}
+use Rattle.room_find.proofs.Records.{oflist}
 use Rattle.look_continuation_records.specs.declared.Whole.{Whole}
-use Rattle.look_continuation_records.specs.declared.Whole.TheVariants as whole
-use Rattle.look_continuation_records.specs.Configs.{whole_at, of_whole}
-use Rattle.look_continuation_records.proofs.WholeLaws.{lies}
+use Rattle.look_continuation_records.specs.Configs.{whole_at}
+use Rattle.look_continuation_records.proofs.WholeLaws.{contexts_before, context_missed, configs_missed, lies}
 
 -- `got` is what the code found
-module _ (w : List ℕ) (i : ℕ) {p q z : ℕ} {got : Whole} (g : got ≡ whole_at w i) (k : got ≡ whole.Spans p q z) where
-  pub contexts_count : p < length w
+module _ (w : List ℕ) (i : ℕ) {t : Whole} {got : Result Whole Missing} (g : got ≡ whole_at w i) (k : got ≡ Ok t) where
+  pub contexts_count : t.contexts < length w
   contexts_count = let l = lies w i (sym g ∙ k) in omega (arith, l.contexts, l.configs, l.inside)
 
-  pub contexts_bytes : length w * 4 < 2 ^ 63 → Fits w64 (p * 4)
+  pub contexts_bytes : length w * 4 < 2 ^ 63 → Fits w64 (t.contexts * 4)
   contexts_bytes h = let l = lies w i (sym g ∙ k) in record { fits = omega (arith, l.contexts, l.configs, l.inside) }
 
-  pub contexts_first : length w * 4 < 2 ^ 63 → Fits w64 (p + 1)
+  pub contexts_first : length w * 4 < 2 ^ 63 → Fits w64 (t.contexts + 1)
   contexts_first h = let l = lies w i (sym g ∙ k) in record { fits = omega (arith, l.contexts, l.configs, l.inside) }
 
-  pub contexts_part : p + 1 ≤ q
+  pub contexts_part : t.contexts + 1 ≤ t.configs
   contexts_part = (lies w i (sym g ∙ k)).contexts
 
-  pub configs_count : q < length w
+  pub configs_count : t.configs < length w
   configs_count = let l = lies w i (sym g ∙ k) in omega (arith, l.configs, l.inside)
 
-  pub configs_bytes : length w * 4 < 2 ^ 63 → Fits w64 (q * 4)
+  pub configs_bytes : length w * 4 < 2 ^ 63 → Fits w64 (t.configs * 4)
   configs_bytes h = let l = lies w i (sym g ∙ k) in record { fits = omega (arith, l.configs, l.inside) }
 
-  pub configs_first : length w * 4 < 2 ^ 63 → Fits w64 (q + 1)
+  pub configs_first : length w * 4 < 2 ^ 63 → Fits w64 (t.configs + 1)
   configs_first h = let l = lies w i (sym g ∙ k) in record { fits = omega (arith, l.configs, l.inside) }
 
-  pub configs_part : q + 1 ≤ z
+  pub configs_part : t.configs + 1 ≤ t.end
   configs_part = (lies w i (sym g ∙ k)).configs
 
--- Going on with a record
-
-module _ {A : Type 0} (x : Whole) (f : ℕ → ℕ → ℕ → A) (a o : A) {got : Whole} where
-  pub whole-there : {p q z : ℕ} {all : A} → got ≡ x → got ≡ whole.Spans p q z → all ≡ f p q z → all ≡ of_whole x f a o
-  unfolding of_whole
-  whole-there g k h = h ∙ (rw (← g, k))
-
-  pub whole-absent : got ≡ x → got ≡ whole.Absent → a ≡ of_whole x f a o
-  unfolding of_whole
-  whole-absent g k = rw (← g, k)
-
-  pub whole-outside : got ≡ x → got ≡ whole.Outside → o ≡ of_whole x f a o
-  unfolding of_whole
-  whole-outside g k = rw (← g, k)
-
-module _ (x : Whole) (f g : ℕ → ℕ → ℕ → ℕ) {got : Whole} {span : Span} where
-  pub span-there : {p q z : ℕ} → got ≡ x → got ≡ whole.Spans p q z → span ≡ record { from = f p q z; length = g p q z }
-      → span ≡ record { from = of_whole x f 0 0; length = of_whole x g 0 0 }
-  unfolding of_whole
-  span-there e h k = k ∙ (rw (sym e ∙ h))
-
-  pub span-absent : got ≡ x → got ≡ whole.Absent → span ≡ record { from = 0; length = 0 } → span ≡ record { from = of_whole x f 0 0; length = of_whole x g 0 0 }
-  unfolding of_whole
-  span-absent e h k = k ∙ (rw (sym e ∙ h))
-
-  pub span-outside : got ≡ x → got ≡ whole.Outside → span ≡ record { from = 0; length = 0 } → span ≡ record { from = of_whole x f 0 0; length = of_whole x g 0 0 }
-  unfolding of_whole
-  span-outside e h k = k ∙ (rw (sym e ∙ h))
-
+-- where what is found lies, and that what is refused leads outside
 pub ruleset telling = (
-  rules,
+  oflist,
+  contexts_before,
+  context_missed,
+  configs_missed,
   contexts_count,
   contexts_bytes,
   contexts_first,
@@ -78,10 +53,4 @@ pub ruleset telling = (
   configs_bytes,
   configs_first,
   configs_part,
-  whole-there,
-  whole-absent,
-  whole-outside,
-  span-there,
-  span-absent,
-  span-outside,
 )

@@ -1,6 +1,6 @@
 -- What a continuation follows from. Assumes nothing.
 use Rattle.room_find.proofs.Records.{ofstate, oflist}
-use Rattle.look_row.proofs.Hits.{gives, gives_none, row-outside}
+use Rattle.look_row.proofs.Searches.{row_missed}
 
--- by what is found
-pub ruleset chain = (ofstate, oflist, gives, gives_none, row-outside)
+-- where what is found lies, and that a search that gives nothing led outside
+pub ruleset chain = (ofstate, oflist, row_missed)

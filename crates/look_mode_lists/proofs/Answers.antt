@@ -8,15 +8,14 @@ use lib.Dec.{ltb}
 use lib.ListN.{length, length-append}
 use borrow.Author.Rules.{rules}
 use borrow.Author.Tests.{lt-ltb, le-ltb}
-use Rattle.refusal.specs.Said.{ok, no, ROOM, STATE, NOT-TABLE, ORDER}
+use Rattle.refusal.specs.Said.{ok, ROOM, NOT-TABLE, ORDER}
 use Rattle.buffer.specs.declared.Written.{Written}
 use Rattle.buffer.specs.declared.Written.TheVariants.{Numbers}
 use Rattle.buffer.specs.Over.{Put, zeros}
-use Rattle.room_find.specs.declared.Answer.{Answer}
-use Rattle.room_find.specs.declared.Answer.TheVariants.{Number, NoState, NotTable}
+use Rattle.std.specs.Prelude.{Result, Ok, Err}
+use Rattle.room_find.specs.declared.Missing.{Missing}
+use Rattle.room_find.specs.declared.Span.{Span}
 use Rattle.room_find.specs.Answer as answer
-use Rattle.look_modes.specs.declared.Modes.{Modes}
-use Rattle.look_modes.specs.declared.Modes.TheVariants.{Starts, Outside}
 use Rattle.look_modes.specs.Modes.{state_count, numbers, modes_up_to, of_modes}
 use Rattle.look_modes.proofs.Numbers.{numbers-length}
 use Rattle.look_modes.proofs.AllModesLaws.{modes_lie}
@@ -69,29 +68,21 @@ pub ruleset listing = (rules, unwritten, counts_fit, counts_room, counts_order, 
 
 -- The modes are found, or outside
 
-module _ (w : List ℕ) (n c : ℕ) {k : ℕ} {got : Modes} {r : Written} {new : List ℕ} (g : got ≡ modes_up_to w k) (e : k ≡ limit_of c) where
-  pub counts_there : {at count : ℕ} → got ≡ Starts at count → Writes r n new (counts_for n c (numbers w count at)) → Writes r n new (counts_with w n c)
+module _ (w : List ℕ) (n c : ℕ) {k : ℕ} {got : Result Span Missing} {r : Written} {new : List ℕ} (g : got ≡ modes_up_to w k) (e : k ≡ limit_of c) where
+  pub counts_there : {t : Span} → got ≡ Ok t → Writes r n new (counts_for n c (numbers w t.length t.from)) → Writes r n new (counts_with w n c)
   unfolding counts_with of_modes
   counts_there h l = let q : modes_up_to w (limit_of c) ≡ _ = ap (modes_up_to w) (sym e) ∙ sym g ∙ h in rw q l
 
-  pub counts_outside : got ≡ Outside → Writes r n new (refused NOT-TABLE 0) → Writes r n new (counts_with w n c)
+  pub counts_outside : {m : Missing} → got ≡ Err m → Writes r n new (refused NOT-TABLE 0) → Writes r n new (counts_with w n c)
   unfolding counts_with of_modes
   counts_outside h l = let q : modes_up_to w (limit_of c) ≡ _ = ap (modes_up_to w) (sym e) ∙ sym g ∙ h in rw q l
 
 -- The count of states is asked for, once the buffer is cleared
 
-module _ (old : List ℕ) {d : List ℕ} (z : d ≡ zeros (length old)) (w : List ℕ) {r : Written} {new : List ℕ} {x : Answer}
+module _ (old : List ℕ) {d : List ℕ} (z : d ≡ zeros (length old)) (w : List ℕ) {r : Written} {new : List ℕ} {x : Result ℕ Missing}
     (g : answer.said x ≡ state_count w) where
-  pub counts_asked : {c : ℕ} → x ≡ Number c → Writes r (length d) new (counts_with w (length d) c) → Writes r (length old) new (mode_state_counts w (length old))
+  pub counts_asked : {c : ℕ} → x ≡ Ok c → Writes r (length d) new (counts_with w (length d) c) → Writes r (length old) new (mode_state_counts w (length old))
   unfolding asked
   counts_asked e l = let q : state_count w ≡ ok (_ ∷ []) = sym g ∙ ap answer.said e in rw (q, ← cleared_length old z) l
 
-  pub counts_no_state : x ≡ NoState → Writes r (length d) new (refused STATE 0) → Writes r (length old) new (mode_state_counts w (length old))
-  unfolding asked
-  counts_no_state e l = let q : state_count w ≡ no STATE 0 = sym g ∙ ap answer.said e in rw (q, ← cleared_length old z) l
-
-  pub counts_no_table : x ≡ NotTable → Writes r (length d) new (refused NOT-TABLE 0) → Writes r (length old) new (mode_state_counts w (length old))
-  unfolding asked
-  counts_no_table e l = let q : state_count w ≡ no NOT-TABLE 0 = sym g ∙ ap answer.said e in rw (q, ← cleared_length old z) l
-
-pub ruleset answers = (rules, modes_lie, unwritten, counts_there, counts_outside, cleared, counts_asked, counts_no_state, counts_no_table)
+pub ruleset answers = (rules, modes_lie, unwritten, counts_there, counts_outside, cleared, counts_asked)

@@ -13,8 +13,9 @@ use Rattle.buffer.specs.declared.Written.{Written}
 use Rattle.buffer.specs.declared.Written.TheVariants.{Numbers}
 use Rattle.buffer.specs.Over.{Put, zeros}
 use Rattle.buffer.proofs.Going.{Going, going_start, going_done, going_place, going_put}
-use Rattle.look_modes.specs.declared.Modes.{Modes}
-use Rattle.look_modes.specs.declared.Modes.TheVariants.{Starts, Outside}
+use Rattle.std.specs.Prelude.{Result, Ok, Err}
+use Rattle.room_find.specs.declared.Missing.{Missing}
+use Rattle.room_find.specs.declared.Span.{Span}
 use Rattle.look_modes.specs.Modes.{numbers, modes_up_to, of_modes}
 use Rattle.look_modes.proofs.Numbers.{numbers_open, numbers_done, numbers-length}
 use Rattle.look_modes.proofs.AllModesLaws.{modes_lie}
@@ -68,13 +69,13 @@ pub ruleset listing = (rules, unwritten, flags_fit, flags-room, flags-written)
 
 -- The modes are found, or outside
 
-module _ (old : List ℕ) {d : List ℕ} (z : d ≡ zeros (length old)) (w : List ℕ) {r : Written} {new : List ℕ} {got : Modes} (g : got ≡ modes_up_to w 65535) where
-  pub flags-there : {at count : ℕ} → got ≡ Starts at count → Writes r (length d) new (flags_for (length d) (numbers w count at))
+module _ (old : List ℕ) {d : List ℕ} (z : d ≡ zeros (length old)) (w : List ℕ) {r : Written} {new : List ℕ} {got : Result Span Missing} (g : got ≡ modes_up_to w 65535) where
+  pub flags-there : {t : Span} → got ≡ Ok t → Writes r (length d) new (flags_for (length d) (numbers w t.length t.from))
       → Writes r (length old) new (mode_flags w (length old))
   unfolding of_modes
   flags-there e l = rw (sym g ∙ e, ← cleared_length old z) l
 
-  pub flags-outside : got ≡ Outside → Writes r (length d) new (refused NOT-TABLE 0) → Writes r (length old) new (mode_flags w (length old))
+  pub flags-outside : {m : Missing} → got ≡ Err m → Writes r (length d) new (refused NOT-TABLE 0) → Writes r (length old) new (mode_flags w (length old))
   unfolding of_modes
   flags-outside e l = rw (sym g ∙ e, ← cleared_length old z) l
 

@@ -6,7 +6,7 @@ use mathlib.Core.Bool.{Bool, true, false}
 use mathlib.Core.List.{List, ◌∷◌}
 use lib.Dec.{ltb, leb}
 use lib.ListN.{length, get_or}
-use mir.Syntax.{w32}
+use mir.Syntax.{w64}
 use mir.Val.{bool_byte, Fits}
 use mir.Facts.{Fits-le}
 use borrow.Author.Rules.{rules}
@@ -48,7 +48,7 @@ module _ (w : List ℕ) (left here k : ℕ) {all : ℕ} (i : k + length (compile
 pub count-within : (x k left count : ℕ) → 0 < left → k + left ≤ count → k + bool_byte (leb x 65535) + (left - 1) ≤ count
 count-within x k left count h e = omega (arith, byte_least (leb x 65535))
 
-pub count_fits : (x k left count : ℕ) → 0 < left → k + left ≤ count → Fits w32 count → Fits w32 (k + bool_byte (leb x 65535))
+pub count_fits : (x k left count : ℕ) → 0 < left → k + left ≤ count → Fits w64 count → Fits w64 (k + bool_byte (leb x 65535))
 count_fits x k left count h e f = let b : k + bool_byte (leb x 65535) ≤ count = omega (arith, byte_least (leb x 65535)) in Fits-le b f
 
 pub ruleset counting = (rules, count_turn, count_done, count-within, count_fits)

@@ -10,9 +10,8 @@ ghost use Rattle.look_mode_lists.specs.Flags.{flag, flags_for, mode_flags};
 ghost use Rattle.look_mode_lists.specs.Counts.{compiled_of, counts_of, later, descent, counts_for, limit_of, counts_with, mode_state_counts, gap, step};
 
 use buffer::Written;
-use look_modes::Modes;
 use refusal::{NONE, NOT_TABLE, ORDER, ROOM, Refusal, STATE};
-use room_find::Answer;
+use room_find::Missing;
 
 // 1 for a compiled mode, else 0.
 fn flag_of(start: u32) -> u32
@@ -24,7 +23,7 @@ fn flag_of(start: u32) -> u32
     0
 }
 
-fn put_flags(room: &[u32], at: usize, count: u32, out: &mut [u32]) -> usize
+fn put_flags(room: &[u32], at: usize, count: usize, out: &mut [u32]) -> usize
     requires within { at + count ≤ length room.now }
     requires fits { 0 + length (map flag (numbers room.now count at)) ≤ length out.old }
     ensures { Put (map flag (numbers room.now count at)) 0 out.old result out.new }
@@ -42,12 +41,12 @@ fn put_flags(room: &[u32], at: usize, count: u32, out: &mut [u32]) -> usize
 }
 
 // The flags of `count` modes from `at`, into a buffer of zeros.
-fn flags_into(room: &[u32], at: usize, count: u32, out: &mut [u32]) -> Written
+fn flags_into(room: &[u32], at: usize, count: usize, out: &mut [u32]) -> Written
     requires within { at + count ≤ length room.now }
     requires clear { out.old ≡ zeros (length out.old) }
     ensures { Writes result (length out.old) out.new (flags_for (length out.old) (numbers room.now count at)) }
 {
-    if out.len() < (count as usize) {
+    if out.len() < count {
         return Written::Refused(Refusal {
             number: ROOM,
             item: 0,
@@ -63,8 +62,8 @@ pub fn compiled_mode_flags(room: &[u32], out: &mut [u32]) -> Written
 {
     buffer::clear(out);
     match look_modes::find_modes(room, 65535) {
-        Modes::Starts(at, count) => flags_into(room, at, count, out),
-        Modes::Outside => Written::Refused(Refusal {
+        Ok(modes) => flags_into(room, modes.from, modes.length, out),
+        Err(_) => Written::Refused(Refusal {
             number: NOT_TABLE,
             item: 0,
             place: 0,
@@ -73,7 +72,7 @@ pub fn compiled_mode_flags(room: &[u32], out: &mut [u32]) -> Written
 }
 
 // How many modes are compiled.
-fn compiled_count(room: &[u32], at: usize, count: u32) -> u32
+fn compiled_count(room: &[u32], at: usize, count: usize) -> usize
     requires { at + count ≤ length room.now }
     ensures { result ≡ length (compiled_of (numbers room.now count at)) }
 {
@@ -81,7 +80,7 @@ fn compiled_count(room: &[u32], at: usize, count: u32) -> u32
     let mut here = at;
     let mut k = 0;
     while 0 < left {
-        k += (room[here] <= 65535) as u32;
+        k += (room[here] <= 65535) as usize;
         here += 1;
         left -= 1;
     }
@@ -98,7 +97,7 @@ fn later_of(last: u32, x: u32) -> u32
 }
 
 // The number of the first compiled mode that starts below the one before it, or how many modes there are.
-fn first_descent(room: &[u32], at: usize, count: u32) -> u32
+fn first_descent(room: &[u32], at: usize, count: usize) -> usize
     requires { at + count ≤ length room.now }
     ensures { result ≡ descent 0 (numbers room.now count at) }
 {
@@ -150,7 +149,7 @@ fn put_step(last: u32, x: u32, out: &mut [u32], m: usize) -> usize
 }
 
 // The state counts of the modes; `last` is the start that waits for the one behind it.
-fn put_counts(room: &[u32], at: usize, count: u32, states: u32, out: &mut [u32]) -> usize
+fn put_counts(room: &[u32], at: usize, count: usize, states: u32, out: &mut [u32]) -> usize
     requires within { at + count ≤ length room.now }
     requires fits { 0 + length (counts_of states (numbers room.now count at)) ≤ length out.old }
     ensures { Put (counts_of states (numbers room.now count at)) 0 out.old result out.new }
@@ -169,14 +168,14 @@ fn put_counts(room: &[u32], at: usize, count: u32, states: u32, out: &mut [u32])
 }
 
 // The state counts of `count` modes from `at`, into a buffer of zeros.
-fn counts_into(room: &[u32], at: usize, count: u32, states: u32, out: &mut [u32]) -> Written
+fn counts_into(room: &[u32], at: usize, count: usize, states: u32, out: &mut [u32]) -> Written
     requires within { at + count ≤ length room.now }
     requires clear { out.old ≡ zeros (length out.old) }
     ensures { Writes result (length out.old) out.new
         (counts_for (length out.old) states (numbers room.now count at)) }
 {
     let compiled = compiled_count(room, at, count);
-    if out.len() < (compiled as usize) {
+    if out.len() < compiled {
         return Written::Refused(Refusal {
             number: ROOM,
             item: 0,
@@ -188,7 +187,7 @@ fn counts_into(room: &[u32], at: usize, count: u32, states: u32, out: &mut [u32]
         return Written::Refused(Refusal {
             number: ORDER,
             item: 0,
-            place: place as usize,
+            place,
         });
     }
     Written::Numbers(put_counts(room, at, count, states, out))
@@ -208,8 +207,8 @@ fn counts_with(room: &[u32], states: u32, out: &mut [u32]) -> Written
     ensures { Writes result (length out.old) out.new (counts_with room.now (length out.old) states) }
 {
     match look_modes::find_modes(room, limit_of(states)) {
-        Modes::Starts(at, count) => counts_into(room, at, count, states, out),
-        Modes::Outside => Written::Refused(Refusal {
+        Ok(modes) => counts_into(room, modes.from, modes.length, states, out),
+        Err(_) => Written::Refused(Refusal {
             number: NOT_TABLE,
             item: 0,
             place: 0,
@@ -223,13 +222,13 @@ pub fn mode_state_counts(room: &[u32], out: &mut [u32]) -> Written
 {
     buffer::clear(out);
     match look_modes::state_count(room) {
-        Answer::Number(states) => counts_with(room, states, out),
-        Answer::NoState => Written::Refused(Refusal {
+        Ok(states) => counts_with(room, states, out),
+        Err(Missing::Absent) => Written::Refused(Refusal {
             number: STATE,
             item: 0,
             place: 0,
         }),
-        Answer::NotTable => Written::Refused(Refusal {
+        Err(Missing::Outside) => Written::Refused(Refusal {
             number: NOT_TABLE,
             item: 0,
             place: 0,

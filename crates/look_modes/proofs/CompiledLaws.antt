@@ -1,20 +1,17 @@
 -- The laws of whether a mode is compiled: the search for one, and how to go on with all modes. Assumes nothing.
 use Prim.Native.Nat.{ℕ, ◌+◌, ◌-◌, ◌<◌, ◌≤◌}
-use mathlib.Core.Path.{◌≡◌, ◌∙◌}
+use mathlib.Core.Path.{◌≡◌}
 use mathlib.Core.Bool.{Bool, true, false}
-use mathlib.Core.List.{List, [], ◌∷◌}
+use mathlib.Core.List.{List}
 use lib.Dec.{leb}
 use lib.ListN.{get_or}
 use borrow.Author.Rules.{rules}
 use borrow.Author.Tests.{le-leb, lt-leb}
-use Rattle.refusal.specs.Said.{ok}
-use Rattle.refusal.specs.Lists.{pick, some}
+use Rattle.refusal.specs.Lists.{some}
 use Rattle.look_modes.specs.Start.{compiled}
-use Rattle.look_modes.specs.declared.Modes.{Modes}
-use Rattle.look_modes.specs.declared.Modes.TheVariants.{Starts, Outside}
-use Rattle.look_modes.specs.Modes.{numbers, of_modes}
+use Rattle.look_modes.specs.Modes.{numbers}
 use Rattle.look_modes.proofs.Numbers.{numbers_open, numbers_done}
-use Rattle.look_modes.proofs.AllModesLaws.{modes_lie}
+use Rattle.look_modes.proofs.AllModesLaws.{modes_lie, modes_missed}
 
 -- a search for one that is a state
 module _ (w : List ℕ) (left here : ℕ) {all : Bool} (i : some compiled (numbers w left here) ≡ all) where
@@ -32,18 +29,5 @@ module _ (w : List ℕ) (left here : ℕ) {all : Bool} (i : some compiled (numbe
 
 pub ruleset testing = (rules, some_turn, some_stop, some_done)
 
--- going on with the modes that were found
-module _ {A : Type 0} (w : List ℕ) (x : Modes) (f : List ℕ → A) (o : A) {got : Modes} where
-  pub modes_there : {at n : ℕ} {all : A} → got ≡ x → got ≡ Starts at n → all ≡ f (numbers w n at) → all ≡ of_modes w x f o
-  unfolding of_modes
-  modes_there g e h = h ∙ (rw (← g, e))
-
-  pub modes_outside : got ≡ x → got ≡ Outside → o ≡ of_modes w x f o
-  unfolding of_modes
-  modes_outside g e = rw (← g, e)
-
-pub flagged : (b c : Bool) → b ≡ c → ok (pick b 1 0 ∷ []) ≡ ok (pick c 1 0 ∷ [])
-flagged b c e = rw e
-
--- by what is found
-pub ruleset chain = (rules, modes_lie, modes_there, modes_outside, flagged)
+-- where what is found lies, and that what is refused leads outside
+pub ruleset chain = (modes_lie, modes_missed)

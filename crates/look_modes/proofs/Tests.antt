@@ -5,7 +5,7 @@ use mathlib.Core.Bool.{Bool, true, false}
 use mathlib.Core.List.{List}
 use lib.ListN.{get_or}
 use borrow.Author.Rules.{rules}
-use Rattle.refusal.specs.Lists.{pick, every}
+use Rattle.refusal.specs.Lists.{every}
 use Rattle.look_modes.specs.Modes.{numbers}
 use Rattle.look_modes.proofs.Numbers.{numbers_open, numbers_done}
 
@@ -22,13 +22,5 @@ module _ (p : ℕ → Bool) (w : List ℕ) (left here : ℕ) {all : Bool} (i : e
   pub every_done : left ≤ 0 → true ≡ all
   unfolding every
   every_done h = rw (numbers_done w left here h) at i
-
--- a test that was made by a call, behind another
-module _ {A : Type 0} (b c : Bool) (x y : A) {t : Bool} where
-  pub second_holds : t ≡ c → t ≡ true → b ≡ true → x ≡ pick b (pick c x y) y
-  second_holds g e h = rw (h, ← g, e)
-
-  pub second_fails : t ≡ c → t ≡ false → b ≡ true → y ≡ pick b (pick c x y) y
-  second_fails g e h = rw (h, ← g, e)
 
 pub ruleset testing = (rules, every_turn, every_stop, every_done)

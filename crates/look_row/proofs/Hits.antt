@@ -2,38 +2,42 @@
 use Prim.Native.Nat.{ℕ}
 use mathlib.Core.Path.{◌≡◌, refl, sym, ap, ◌∙◌}
 use mathlib.Core.List.{List, [], ◌∷◌}
-use Rattle.refusal.specs.Said.{Said, ok, no_by}
-use Rattle.look_row.specs.declared.Hit.{Hit}
-use Rattle.look_row.specs.declared.Hit.TheVariants.{Third, Gap, Outside}
+use lib.Dec.{eqb}
+use Rattle.refusal.specs.Said.{Said, ok, no_by, STATE}
+use Rattle.refusal.specs.Lists.{pick}
+use Rattle.std.specs.Prelude.{Option, Some, None, Result, Ok, Err}
+use Rattle.room_find.specs.declared.Missing.{Missing}
+use Rattle.room_find.specs.declared.Missing.TheVariants.{Absent, Outside}
 use Rattle.look_row.specs.Search.{said, given}
 
 -- a third number, none, or nothing since the row is outside
-module _ {A : Type 0} (x : Hit) (f : ℕ → A) (a o : A) where
-  pub gives : {t : ℕ} {got : Hit} {all : A} → got ≡ x → got ≡ Third t → all ≡ f t → all ≡ given x f a o
+module _ {A : Type 0} (x : Result (Option ℕ) Missing) (f : ℕ → A) (a o : A) where
+  pub gives : {t : ℕ} {got : Result (Option ℕ) Missing} {all : A} → got ≡ x → got ≡ Ok (Some t) → all ≡ f t → all ≡ given x f a o
   unfolding given
   gives g e h = h ∙ (rw (← g, e))
 
-  pub gives_none : {got : Hit} → got ≡ x → got ≡ Gap → a ≡ given x f a o
+  pub gives_none : {got : Result (Option ℕ) Missing} → got ≡ x → got ≡ Ok None → a ≡ given x f a o
   unfolding given
   gives_none g e = rw (← g, e)
 
-  pub row-outside : {got : Hit} → got ≡ x → got ≡ Outside → o ≡ given x f a o
+  pub row-outside : {got : Result (Option ℕ) Missing} {m : Missing} → got ≡ x → got ≡ Err m → o ≡ given x f a o
   unfolding given
   row-outside g e = rw (← g, e)
 
 -- `said` takes no two answers to one: what it says gives the answer back
-abbrev list_back : List ℕ → Hit
-list_back [] = Gap
-list_back (t ∷ l) = Third t
+abbrev list_back : List ℕ → Option ℕ
+list_back [] = None
+list_back (t ∷ l) = Some t
 
-abbrev back : Said → Hit
-back (ok l) = list_back l
-back (no_by r) = Outside
+abbrev back : Said → Result (Option ℕ) Missing
+back (ok l) = Ok (list_back l)
+back (no_by r) = pick (eqb r.number STATE) (Err Absent) (Err Outside)
 
-back-said : (x : Hit) → back (said x) ≡ x
-back-said (Third t) = refl
-back-said Gap = refl
-back-said Outside = refl
+back-said : (x : Result (Option ℕ) Missing) → back (said x) ≡ x
+back-said (Ok (Some t)) = refl
+back-said (Ok None) = refl
+back-said (Err Absent) = refl
+back-said (Err Outside) = refl
 
-pub said_one : (x y : Hit) → said x ≡ said y → x ≡ y
+pub said_one : (x y : Result (Option ℕ) Missing) → said x ≡ said y → x ≡ y
 said_one x y e = sym (back-said x) ∙ ap back e ∙ back-said y

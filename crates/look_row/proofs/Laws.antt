@@ -9,8 +9,7 @@ use lib.Dec.{leb}
 use lib.ListN.{length, get_or, drop}
 use Rattle.refusal.specs.Fixed.{DEAD-STATE}
 use Rattle.refusal.specs.Lists.{pick}
-use Rattle.look_row.specs.declared.Hit.{Hit}
-use Rattle.look_row.specs.declared.Hit.TheVariants.{Third, Gap}
+use Rattle.std.specs.Prelude.{Option, Some, None, Ok}
 use Rattle.look_row.specs.Search.{found, given, searched}
 use Rattle.look_row.specs.declared.WideRange.{WideRange}
 use Rattle.look_row.specs.Ranges.{numbers, target_of, target_in, Stands}
@@ -29,7 +28,7 @@ found_same w v x (suc n) at bt h = rw (low, h 1 (omega arith), h 2 (omega arith)
     behind j l = let e : at + 3 + j ≡ at + (3 + j) = omega arith in let f : bt + 3 + j ≡ bt + (3 + j) = omega arith in rw (e, f) (h (3 + j) (omega arith))
 
 -- one range, and the ranges behind it
-target_open : (b c : Bool) (t : ℕ) (h : Hit) → target_of (pick b (pick c (Third t) Gap) h) ≡ pick b (pick c t DEAD-STATE) (target_of h)
+target_open : (b c : Bool) (t : ℕ) (h : Option ℕ) → target_of (Ok (pick b (pick c (Some t) None) h)) ≡ pick b (pick c t DEAD-STATE) (target_of (Ok h))
 unfolding given
 target_open true true t h = refl
 target_open true false t h = refl
@@ -39,7 +38,7 @@ pub first_range : (r : WideRange) (rs : List WideRange) (x : ℕ)
     → target_in (r ∷ rs) x ≡ pick (leb x r.high) (pick (leb r.low x) r.target DEAD-STATE) (target_in rs x)
 unfolding target_in found
 first_range r rs x = target_open (leb x r.high) (leb r.low x) r.target (found (numbers (r ∷ rs)) x (length rs) 3)
-    ∙ ap (λ h. pick (leb x r.high) (pick (leb r.low x) r.target DEAD-STATE) (target_of h)) behind
+    ∙ ap (λ h. pick (leb x r.high) (pick (leb r.low x) r.target DEAD-STATE) (target_of (Ok h))) behind
   where
     behind : found (numbers (r ∷ rs)) x (length rs) 3 ≡ found (numbers rs) x (length rs) 0
     behind = found_same (numbers (r ∷ rs)) (numbers rs) x (length rs) 3 0
@@ -64,7 +63,7 @@ searched_same w at e x rs s =
     let a : at < e = omega (arith, s.whole) in
     let b : get_or w at 0 * 3 + at < e = rw s.counted s.whole in
     rw (row-searched w at e x s.inside a b, s.counted)
-    (ap target_of (found_same w (numbers rs) x (length rs) (at + 1) 0 (λ j l. let f : 0 + j ≡ j = omega arith in rw f (s.same j l))))
+    (ap (λ (h : Option ℕ). target_of (Ok h)) (found_same w (numbers rs) x (length rs) (at + 1) 0 (λ j l. let f : 0 + j ≡ j = omega arith in rw f (s.same j l))))
 
 -- every row stands somewhere: behind its own length
 numbers-length : (rs : List WideRange) → length (numbers rs) ≡ length rs * 3

@@ -1,20 +1,13 @@
 // The search of a row of ranges: to the first range whose high reaches the symbol. In a room, which may be of any length and hold any
 // numbers; and over a lent slice of range records (`wide_target`), which answers what the search over numbers does.
-#![tactic(auto)]
+#![tactic(auto, unfolding(crate::specs::Search::searched))]
 
 ghost use Rattle.std.specs.Prelude.{◌≡◌, ◌≤◌, ◌<◌, ◌+◌, ◌*◌, length};
 ghost use Rattle.look_row.specs.Search.{found, counted, searched};
 ghost use Rattle.look_row.specs.Ranges.{target_in};
 
 use refusal::DEAD_STATE;
-
-// The third number of the range that was chosen, or none.
-#[derive(Clone, Copy)]
-pub enum Hit {
-    Third(u32),
-    Gap,
-    Outside,
-}
+use room_find::Missing;
 
 // What is left of a search.
 #[derive(Clone, Copy)]
@@ -50,8 +43,8 @@ fn skip(room: &[u32], x: u32, count: u32, at: usize) -> Rest
     Rest { at: here, left }
 }
 
-// Of `count` ranges from `at`, the first whose high reaches `x`.
-fn find_from(room: &[u32], x: u32, count: u32, at: usize) -> Hit
+// Of `count` ranges from `at`, the third number of the first whose high reaches `x`, unless its low passes `x`.
+fn find_from(room: &[u32], x: u32, count: u32, at: usize) -> Option<u32>
     requires { at + count * 3 ≤ length room.now }
     ensures { result ≡ found room.now x count at }
 {
@@ -60,48 +53,50 @@ fn find_from(room: &[u32], x: u32, count: u32, at: usize) -> Hit
     while 0 < left {
         if x <= room[here + 1] {
             if room[here] <= x {
-                return Hit::Third(room[here + 2]);
+                return Some(room[here + 2]);
             }
-            return Hit::Gap;
+            return None;
         }
         here += 3;
         left -= 1;
     }
-    Hit::Gap
+    None
 }
 
 // The same, by fours as long as there are four.
-fn find(room: &[u32], x: u32, count: u32, at: usize) -> Hit
+fn find(room: &[u32], x: u32, count: u32, at: usize) -> Option<u32>
     requires { at + count * 3 ≤ length room.now }
     ensures { result ≡ found room.now x count at }
 {
     let rest = skip(room, x, count, at);
-    let here = rest.at;
-    let left = rest.left;
-    find_from(room, x, left, here)
+    find_from(room, x, rest.left, rest.at)
 }
 
 // The row of `count` ranges behind `at`, in a section that ends at `end`.
-fn search_counted(room: &[u32], at: usize, count: u32, end: u32, x: u32) -> Hit
+fn search_counted(
+    room: &[u32],
+    at: usize,
+    count: u32,
+    end: u32,
+    x: u32,
+) -> Result<Option<u32>, Missing>
     requires { (at < end) × (end ≤ length room.now) }
     ensures { result ≡ counted room.now at end count x }
 {
     if (count as usize) * 3 + at < (end as usize) {
-        return find(room, x, count, at + 1);
+        return Ok(find(room, x, count, at + 1));
     }
-    Hit::Outside
+    Err(Missing::Outside)
 }
 
-// The row whose length stands at `at`, in a section that ends at `end`.
-pub fn search_row(room: &[u32], at: usize, end: u32, x: u32) -> Hit
+// The third number of the range that holds `x`, or none, in the row whose length stands at `at`, in a section that ends at `end`.
+pub fn search_row(room: &[u32], at: usize, end: u32, x: u32) -> Result<Option<u32>, Missing>
     ensures { result ≡ searched room.now at end x }
 {
-    if (end as usize) <= room.len() {
-        if at < (end as usize) {
-            return search_counted(room, at, room[at], end, x);
-        }
+    if (end as usize) <= room.len() && at < (end as usize) {
+        return search_counted(room, at, room[at], end, x);
     }
-    Hit::Outside
+    Err(Missing::Outside)
 }
 
 // A range of symbols, and where it leads.
@@ -116,17 +111,13 @@ pub struct WideRange {
 pub fn wide_target(row: &[WideRange], symbol: u32) -> u16
     ensures { result ≡ target_in row.now symbol }
 {
-    let mut i: usize = 0;
-    while i < row.len() {
-        let range = row[i];
+    for range in row {
         if symbol <= range.high {
             if range.low <= symbol {
                 return range.target;
-            } else {
-                return DEAD_STATE;
             }
+            return DEAD_STATE;
         }
-        i = i + 1;
     }
     DEAD_STATE
 }

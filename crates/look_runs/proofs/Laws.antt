@@ -13,23 +13,24 @@ use Rattle.run_shape.specs.declared.RunAnswer.{RunAnswer}
 use Rattle.run_shape.specs.Shape.{Got, run, refused, answered, Gives}
 use Rattle.run_shape.specs.Words.{read_at}
 use Rattle.run_shape.proofs.Answers.{gives, given}
-use Rattle.room_find.specs.declared.Found.{Found}
-use Rattle.room_find.specs.declared.Found.TheVariants.{At, Absent, Outside}
+use Rattle.std.specs.Prelude.{Result, Ok, Err}
+use Rattle.room_find.specs.declared.Missing.{Missing}
+use Rattle.room_find.specs.declared.Missing.TheVariants.{Absent, Outside}
 use Rattle.room_find.specs.Room.{follow}
 use Rattle.room_find.proofs.Records.{oflist}
 use Rattle.look_runs.specs.StateRun.{not_table, judged, got_of, run_in}
 
 -- going on from what was found
-module _ (x : Found) (f : ℕ → Got) (a o : Got) {got : Found} {r : RunAnswer} where
-  pub there_run : {p : ℕ} → got ≡ x → got ≡ At p → Gives r (f p) → Gives r (follow x f a o)
+module _ (x : Result ℕ Missing) (f : ℕ → Got) (a o : Got) {got : Result ℕ Missing} {r : RunAnswer} where
+  pub there_run : {p : ℕ} → got ≡ x → got ≡ Ok p → Gives r (f p) → Gives r (follow x f a o)
   unfolding follow
   there_run g e h = rw (sym g ∙ e) h
 
-  pub absent_run : got ≡ x → got ≡ Absent → Gives r a → Gives r (follow x f a o)
+  pub absent_run : got ≡ x → got ≡ Err Absent → Gives r a → Gives r (follow x f a o)
   unfolding follow
   absent_run g e h = rw (sym g ∙ e) h
 
-  pub outside_run : got ≡ x → got ≡ Outside → Gives r o → Gives r (follow x f a o)
+  pub outside_run : got ≡ x → got ≡ Err Outside → Gives r o → Gives r (follow x f a o)
   unfolding follow
   outside_run g e h = rw (sym g ∙ e) h
 

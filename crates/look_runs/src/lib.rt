@@ -1,5 +1,5 @@
 // The run of a state: where its words stand, and the run that they are. The room may be of any length and hold any numbers.
-#![tactic(auto)]
+#![tactic(auto, using(crate::proofs::Laws::chain), unfolding(crate::specs::StateRun::run_of, crate::specs::StateRun::ascii_run, room_find::specs::Room::follow))]
 
 ghost use Rattle.std.specs.Prelude.{◌≡◌, ◌≤◌, length};
 ghost use Rattle.look_runs.specs.RunPlaces.{run_place};
@@ -7,11 +7,11 @@ ghost use Rattle.run_shape.specs.Shape.{Gives, refused};
 ghost use Rattle.look_runs.specs.StateRun.{judged, got_of, run_in, run_of, ascii_run};
 
 use refusal::{ASCII_START, NOT_TABLE, RUNS_START, Refusal, STATE};
-use room_find::Found;
+use room_find::Missing;
 use run_shape::{Answered, RunAnswer};
 
 // Where the run with a number stands.
-pub fn find_run(room: &[u32], i: u32) -> Found
+pub fn find_run(room: &[u32], i: u32) -> Result<usize, Missing>
     ensures { result ≡ run_place room.now i }
 {
     room_find::find_listed(room, RUNS_START, i)
@@ -54,9 +54,8 @@ fn run_of(room: &[u32], i: u32) -> RunAnswer
     ensures { Gives result (run_of room.now i) }
 {
     match find_run(room, i) {
-        Found::At(p) => read_run(room, room[ASCII_START], p),
-        Found::Absent => refuse(NOT_TABLE),
-        Found::Outside => refuse(NOT_TABLE),
+        Ok(p) => read_run(room, room[ASCII_START], p),
+        Err(_) => refuse(NOT_TABLE),
     }
 }
 
@@ -65,8 +64,8 @@ pub fn ascii_run(room: &[u32], state: u16) -> RunAnswer
     ensures { Gives result (ascii_run room.now state) }
 {
     match room_find::find_state(room, state) {
-        Found::At(_) => run_of(room, state as u32),
-        Found::Absent => refuse(STATE),
-        Found::Outside => refuse(NOT_TABLE),
+        Ok(_) => run_of(room, state as u32),
+        Err(Missing::Absent) => refuse(STATE),
+        Err(Missing::Outside) => refuse(NOT_TABLE),
     }
 }

@@ -22,8 +22,9 @@ use Rattle.run_shape.specs.Words.{read_at, short_run, or_field, kind_of, bytes_o
 use Rattle.run_shape.specs.Scan as scan
 use Rattle.run_shape.specs.Scan.{bit, scan_said, scanned_by}
 use Rattle.run_shape.proofs.Reading.{bare, read_end, read_short, read_cut, read_ranges}
-use Rattle.room_find.specs.declared.Found.{Found}
-use Rattle.room_find.specs.declared.Found.TheVariants.{At, Absent, Outside}
+use Rattle.std.specs.Prelude.{Result, Ok, Err}
+use Rattle.room_find.specs.declared.Missing.{Missing}
+use Rattle.room_find.specs.declared.Missing.TheVariants.{Absent, Outside}
 use Rattle.room_find.specs.Room.{follow}
 use Rattle.room_find.proofs.Records.{oflist}
 use Rattle.look_runs.specs.StateRun.{judged, got_of}
@@ -90,16 +91,16 @@ module _ (w : List ℕ) (at : ℕ) (bs : List ℕ) {all : Said} where
       as_read (ranges_run at (ranges_of_run (get_or w at 0) (record { first = get_or w (at + 1) 0; second = get_or w (at + 2) 0 }))) (read_ranges w at refl l k s) e
 
 -- going on from what was found
-module _ (x : Found) (f : ℕ → Got) (a o : Got) (bs : List ℕ) {got : Found} {all : Said} where
-  pub there_scan : {p : ℕ} → got ≡ x → got ≡ At p → all ≡ scanned_by (f p) bs → all ≡ scanned_by (follow x f a o) bs
+module _ (x : Result ℕ Missing) (f : ℕ → Got) (a o : Got) (bs : List ℕ) {got : Result ℕ Missing} {all : Said} where
+  pub there_scan : {p : ℕ} → got ≡ x → got ≡ Ok p → all ≡ scanned_by (f p) bs → all ≡ scanned_by (follow x f a o) bs
   unfolding follow
   there_scan g e h = rw (sym g ∙ e) h
 
-  pub absent_scan : got ≡ x → got ≡ Absent → all ≡ scanned_by a bs → all ≡ scanned_by (follow x f a o) bs
+  pub absent_scan : got ≡ x → got ≡ Err Absent → all ≡ scanned_by a bs → all ≡ scanned_by (follow x f a o) bs
   unfolding follow
   absent_scan g e h = rw (sym g ∙ e) h
 
-  pub outside_scan : got ≡ x → got ≡ Outside → all ≡ scanned_by o bs → all ≡ scanned_by (follow x f a o) bs
+  pub outside_scan : got ≡ x → got ≡ Err Outside → all ≡ scanned_by o bs → all ≡ scanned_by (follow x f a o) bs
   unfolding follow
   outside_scan g e h = rw (sym g ∙ e) h
 

@@ -1,5 +1,5 @@
 // The scan by a state's run, as the front part of the input itself, and by its length. The room may be of any length and hold any numbers.
-#![tactic(auto)]
+#![tactic(auto, using(crate::proofs::LengthLaws::scanning), unfolding(look_runs::specs::StateRun::run_of, look_runs::specs::StateRun::ascii_run, room_find::specs::Room::follow))]
 
 ghost use Rattle.std.specs.Prelude.{◌≡◌, take, length, ◌≤◌};
 ghost use Rattle.look_runs.specs.StateRun.{ascii_run, skipped_by, judged, run_in, run_of};
@@ -11,7 +11,7 @@ ghost use Rattle.run_ranges.specs.Ranges.{ranges_of_run};
 ghost use Rattle.refusal.specs.Said.{no};
 
 use refusal::{ASCII_START, NOT_TABLE, Refusal, STATE};
-use room_find::Found;
+use room_find::Missing;
 use run_ranges::{AsciiRanges, PackedRanges};
 use run_shape::{Answered, AsciiRun, Run, Scanned};
 
@@ -124,9 +124,8 @@ fn scan_of(room: &[u32], i: u32, input: &[u8]) -> StateScan
     ensures { said result ≡ scan.scanned_by (run_of room.now i) input.now }
 {
     match look_runs::find_run(room, i) {
-        Found::At(p) => scan_run(room, room[ASCII_START], p, input),
-        Found::Absent => no_answer(NOT_TABLE),
-        Found::Outside => no_answer(NOT_TABLE),
+        Ok(p) => scan_run(room, room[ASCII_START], p, input),
+        Err(_) => no_answer(NOT_TABLE),
     }
 }
 
@@ -135,8 +134,8 @@ pub fn scan_ascii_run_length(room: &[u32], state: u16, input: &[u8]) -> StateSca
     ensures { said result ≡ scan.scanned_by (ascii_run room.now state) input.now }
 {
     match room_find::find_state(room, state) {
-        Found::At(_) => scan_of(room, state as u32, input),
-        Found::Absent => no_answer(STATE),
-        Found::Outside => no_answer(NOT_TABLE),
+        Ok(_) => scan_of(room, state as u32, input),
+        Err(Missing::Absent) => no_answer(STATE),
+        Err(Missing::Outside) => no_answer(NOT_TABLE),
     }
 }

@@ -1,9 +1,9 @@
 -- Where a state goes on a symbol, and at the end of the input (document 01, "Lookups"). w is the room, s a state, x a symbol. Assumes nothing.
-use Rattle.std.specs.Prelude.{ℕ, ◌+◌, ◌/◌, ◌%◌, List, [], ◌∷◌, ltb, leb, eqb, get_or}
+use Rattle.std.specs.Prelude.{ℕ, ◌+◌, ◌/◌, ◌%◌, List, [], ◌∷◌, ltb, leb, eqb, get_or, Result}
 use Rattle.refusal.specs.Fixed.{DEAD-STATE}
 use Rattle.refusal.specs.Said.{Said, ok, no, STATE, NOT-TABLE}
 use Rattle.refusal.specs.Lists.{pick}
-use Rattle.room_find.specs.declared.Found.{Found}
+use Rattle.room_find.specs.declared.Missing.{Missing}
 use Rattle.refusal.specs.Header.{ASCII-START, WIDE-START}
 use Rattle.room_find.specs.Room.{record_at, end_of, listed_at, follow, of_state}
 use Rattle.look_row.specs.Search.{searched, given}
@@ -20,7 +20,7 @@ eof_target w s = of_state w s (λ p. target (get_or w (p + 2) 0))
 abbrev pub half : ℕ → ℕ → ℕ
 half word x = pick (eqb (x % 2) 0) (word % 65536) (word / 65536)
 
-unfoldable pub ascii_row_at : List ℕ → ℕ → Found
+unfoldable pub ascii_row_at : List ℕ → ℕ → Result ℕ Missing
 ascii_row_at w row = record_at w ASCII-START 64 row
 
 -- the row is found before "symbol past 127 for `ascii_target`" is STATE
@@ -31,7 +31,7 @@ row_target w row x =
 abbrev pub ascii_target : List ℕ → ℕ → ℕ → Said
 ascii_target w s x = of_state w s (λ p. row_target w (get_or w p 0) x)
 
-abbrev pub wide_row_at : List ℕ → ℕ → Found
+abbrev pub wide_row_at : List ℕ → ℕ → Result ℕ Missing
 wide_row_at w row = listed_at w WIDE-START row
 
 -- the target of the range that a search gives, "else dead"

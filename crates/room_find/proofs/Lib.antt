@@ -1,5 +1,4 @@
 pub mod Records
-pub mod Spans
 pub mod There
 pub mod Answers
 pub mod Laws

@@ -12,10 +12,11 @@ use mir.Syntax.{w64}
 use mir.Val.{Fits}
 use borrow.Author.Rules.{rules}
 use borrow.Author.Tests.{le-leb, lt-leb, lt-ltb, le-ltb, ltb-true, leb-true}
+use Rattle.std.specs.Prelude.{Result, Ok, Err}
 use Rattle.refusal.specs.Said.{Said, ok, no_by}
 use Rattle.refusal.specs.Lists.{pick}
-use Rattle.room_find.specs.declared.Found.{Found}
-use Rattle.room_find.specs.declared.Found.TheVariants.{At, Absent, Outside}
+use Rattle.room_find.specs.declared.Missing.{Missing}
+use Rattle.room_find.specs.declared.Missing.TheVariants.{Absent, Outside}
 use Rattle.room_find.specs.Room.{said, record_in, listed_in, record_at, words_end, end_of, section_of, past_lists, listed_at, state_at, follow}
 
 -- a product of two u32 fits
@@ -32,17 +33,17 @@ pub ruleset cases = (rules, le-leb, lt-leb, lt-ltb, le-ltb, past_list)
 -- Where a record lies that is found
 
 -- a test that held, since the other way leads elsewhere
-pub held : (b : Bool) {x : Found} {p : ℕ} → pick b x Outside ≡ At p → (b ≡ true) × (x ≡ At p)
+pub held : (b : Bool) {x : Result ℕ Missing} {p : ℕ} → pick b x (Err Outside) ≡ Ok p → (b ≡ true) × (x ≡ Ok p)
 held true e = (refl, e)
 held false e = let z : ◌≡◌ {A = ℕ} 0 1 = cc in absurd (omega arith)
 
-pub held-absent : (b : Bool) {x : Found} {p : ℕ} → pick b x Absent ≡ At p → (b ≡ true) × (x ≡ At p)
+pub held-absent : (b : Bool) {x : Result ℕ Missing} {p : ℕ} → pick b x (Err Absent) ≡ Ok p → (b ≡ true) × (x ≡ Ok p)
 held-absent true e = (refl, e)
 held-absent false e = let z : ◌≡◌ {A = ℕ} 0 1 = cc in absurd (omega arith)
 
 module _ (w : List ℕ) (s e : ℕ) where
   -- a record of a given size lies in the room, whole
-  pub record_in_room : (size i : ℕ) {p : ℕ} → record_in w s e size i ≡ At p → p + size ≤ length w
+  pub record_in_room : (size i : ℕ) {p : ℕ} → record_in w s e size i ≡ Ok p → p + size ≤ length w
   unfolding record_in
   record_in_room size i {p} h =
       let h₁ = held (ltb s e) h in
@@ -53,7 +54,7 @@ module _ (w : List ℕ) (s e : ℕ) where
       omega (arith, leb-true e (length w) h₂.0, ltb-true (i * size + s + size) e h₄.0)
 
   -- a record of a length of its own starts in its section, which lies in the room
-  listed_in_room : (i list : ℕ) {p : ℕ} → listed_in w s e i list ≡ At p → (p < e) × (e ≤ length w)
+  listed_in_room : (i list : ℕ) {p : ℕ} → listed_in w s e i list ≡ Ok p → (p < e) × (e ≤ length w)
   unfolding listed_in
   listed_in_room i list {p} h =
       let at = get_or w (list + i) 0 in
@@ -67,7 +68,7 @@ module _ (w : List ℕ) (s e : ℕ) where
       (omega (arith, ltb-true at e h₆.0), leb-true e (length w) h₂.0)
 
 -- it is found by a list of places, wherever that starts
-some_list : (w : List ℕ) (n j list : ℕ) (f : ℕ → Found) {p : ℕ} → past_lists w n j list f ≡ At p → (l : ℕ) × (f l ≡ At p)
+some_list : (w : List ℕ) (n j list : ℕ) (f : ℕ → Result ℕ Missing) {p : ℕ} → past_lists w n j list f ≡ Ok p → (l : ℕ) × (f l ≡ Ok p)
 unfolding past_lists
 some_list w zero j list f h = (list, h)
 some_list w (suc n) j list f h = some_list w n (j + 1) (list + get_or w (get_or w (section_of j) 0) 0) f (held (ltb (get_or w (section_of j) 0) (length w)) h).1
@@ -77,7 +78,7 @@ pub record Lies (w : List ℕ) (k p : ℕ) : Type 0 where
   pub before : p < end_of w k
   pub inside : end_of w k ≤ length w
 
-pub listed_lies : (w : List ℕ) (k i : ℕ) {p : ℕ} → listed_at w k i ≡ At p → Lies w k p
+pub listed_lies : (w : List ℕ) (k i : ℕ) {p : ℕ} → listed_at w k i ≡ Ok p → Lies w k p
 unfolding listed_at
 listed_lies w k i h =
     let h₁ = held (ltb 8 (length w)) h in
@@ -87,7 +88,7 @@ listed_lies w k i h =
     record { header = ltb-true 8 (length w) h₁.0; before = l.0; inside = l.1 }
 
 -- where it ends is read in the header; its first number, and the number behind that
-module _ (w : List ℕ) (k i : ℕ) {p : ℕ} {got : Found} (g : got ≡ listed_at w k i) (e : got ≡ At p) where
+module _ (w : List ℕ) (k i : ℕ) {p : ℕ} {got : Result ℕ Missing} (g : got ≡ listed_at w k i) (e : got ≡ Ok p) where
   lies : Lies w k p
   lies = listed_lies w k i (sym g ∙ e)
 
@@ -113,15 +114,15 @@ module _ (w : List ℕ) (k i : ℕ) {p : ℕ} {got : Found} (g : got ≡ listed_
 pub ruleset oflist = (listed-header, listed-before, listed_inside, listed_first, listed-index, listed-bytes)
 
 -- a record of a section of fixed size lies in the room, whole
-pub record_at_in_room : (w : List ℕ) (k size i : ℕ) {p : ℕ} → record_at w k size i ≡ At p → p + size ≤ length w
+pub record_at_in_room : (w : List ℕ) (k size i : ℕ) {p : ℕ} → record_at w k size i ≡ Ok p → p + size ≤ length w
 record_at_in_room w k size i h = record_in_room w (get_or w k 0) (get_or w (k + 1) 0) size i (held (ltb 8 (length w)) h).1
 
-pub state_in_room : (w : List ℕ) (i : ℕ) {p : ℕ} → state_at w i ≡ At p → p + 4 ≤ length w
+pub state_in_room : (w : List ℕ) (i : ℕ) {p : ℕ} → state_at w i ≡ Ok p → p + 4 ≤ length w
 unfolding state_at
 state_in_room w i h = record_at_in_room w 2 4 i h
 
 -- number j of a state: it is there, and its index is a number of 64 bits, also in bytes
-module _ (w : List ℕ) (i : ℕ) {p : ℕ} {got : Found} (g : got ≡ state_at w i) (e : got ≡ At p) where
+module _ (w : List ℕ) (i : ℕ) {p : ℕ} {got : Result ℕ Missing} (g : got ≡ state_at w i) (e : got ≡ Ok p) where
   pub state_first : p < length w
   state_first = omega (arith, state_in_room w i (sym g ∙ e))
 
@@ -135,16 +136,16 @@ module _ (w : List ℕ) (i : ℕ) {p : ℕ} {got : Found} (g : got ≡ state_at 
   state_bytes l = record { fits = omega (arith, state_in_room w i (sym g ∙ e)) }
 
 -- Going on from a record: it is there, absent, or outside
-module _ {A : Type 0} (x : Found) (f : ℕ → A) (a o : A) where
-  pub there : {p : ℕ} {got : Found} {all : A} → got ≡ x → got ≡ At p → all ≡ f p → all ≡ follow x f a o
+module _ {A : Type 0} (x : Result ℕ Missing) (f : ℕ → A) (a o : A) where
+  pub there : {p : ℕ} {got : Result ℕ Missing} {all : A} → got ≡ x → got ≡ Ok p → all ≡ f p → all ≡ follow x f a o
   unfolding follow
   there g e h = h ∙ (rw (← g, e))
 
-  pub absent : {got : Found} → got ≡ x → got ≡ Absent → a ≡ follow x f a o
+  pub absent : {got : Result ℕ Missing} → got ≡ x → got ≡ Err Absent → a ≡ follow x f a o
   unfolding follow
   absent g e = rw (← g, e)
 
-  pub outside : {got : Found} → got ≡ x → got ≡ Outside → o ≡ follow x f a o
+  pub outside : {got : Result ℕ Missing} → got ≡ x → got ≡ Err Outside → o ≡ follow x f a o
   unfolding follow
   outside g e = rw (← g, e)
 
@@ -152,18 +153,18 @@ module _ {A : Type 0} (x : Found) (f : ℕ → A) (a o : A) where
 pub ruleset ofstate = (rules, there, absent, outside, state_first, state_number, state_index, state_bytes)
 
 -- `said` takes no two answers to one: what it says gives the answer back
-abbrev list_back : List ℕ → Found
-list_back [] = Absent
-list_back (p ∷ l) = At p
+abbrev list_back : List ℕ → Result ℕ Missing
+list_back [] = (Err Absent)
+list_back (p ∷ l) = Ok p
 
-abbrev back : Said → Found
+abbrev back : Said → Result ℕ Missing
 back (ok l) = list_back l
-back (no_by r) = Outside
+back (no_by r) = (Err Outside)
 
-back-said : (x : Found) → back (said x) ≡ x
-back-said (At p) = refl
-back-said Absent = refl
-back-said Outside = refl
+back-said : (x : Result ℕ Missing) → back (said x) ≡ x
+back-said (Ok p) = refl
+back-said (Err Absent) = refl
+back-said (Err Outside) = refl
 
-pub said_one : (x y : Found) → said x ≡ said y → x ≡ y
+pub said_one : (x y : Result ℕ Missing) → said x ≡ said y → x ≡ y
 said_one x y e = sym (back-said x) ∙ ap back e ∙ back-said y

@@ -1,6 +1,6 @@
 // Finding a record in a room: one of a fixed size, and one of a length of its own by its place in a list.
 // The room may be of any length and hold any numbers: each call says whether what it follows is there.
-#![tactic(auto)]
+#![tactic(auto, unfolding(crate::specs::Room::record_in, crate::specs::Room::listed_in, crate::specs::Room::state_at, crate::specs::Room::listed_at))]
 
 ghost use Rattle.std.specs.Prelude.{◌≡◌, ◌+◌, ◌-◌, ◌<◌, ◌≤◌, length};
 ghost use Rattle.room_find.specs.Room.{placed, record_in, state_at, within, numbered, listed_in, end_of, section_of, past_lists, listed_at};
@@ -10,20 +10,11 @@ use refusal::{
     ASCII_START, CONTINUATIONS_START, HEADER_NUMBERS, RUNS_START, STATES_START, WORD_COUNT,
 };
 
-// Where a record stands.
-#[derive(Clone, Copy)]
-pub enum Found {
-    At(usize),
+// Why a lookup gives nothing: there is none of that number; or what it follows leads outside the room or its section, so that this is no table.
+#[derive(Clone, Copy, PartialEq, Eq, Debug)]
+pub enum Missing {
     Absent,
     Outside,
-}
-
-// What is told of a state: a number; or no such state, or no table.
-#[derive(Clone, Copy)]
-pub enum Answer {
-    Number(u32),
-    NoState,
-    NotTable,
 }
 
 // A part of the room by its place, and how many numbers it has.
@@ -35,84 +26,70 @@ pub struct Span {
 }
 
 // Record `i` of `count`, of `size` numbers each, in a section from `start` to before `end`.
-fn place(start: u32, end: u32, count: u32, size: u32, i: u32) -> Found
+fn place(start: u32, end: u32, count: u32, size: u32, i: u32) -> Result<usize, Missing>
     ensures { result ≡ placed start end count size i }
 {
     if i < count {
         let at = (i as usize) * (size as usize) + (start as usize);
         if at + (size as usize) < (end as usize) {
-            return Found::At(at + 1);
+            return Ok(at + 1);
         }
-        return Found::Outside;
+        return Err(Missing::Outside);
     }
-    Found::Absent
+    Err(Missing::Absent)
 }
 
 // Record `i` of a section whose records have `size` numbers each.
-pub fn record_in(room: &[u32], start: u32, end: u32, size: u32, i: u32) -> Found
+pub fn record_in(room: &[u32], start: u32, end: u32, size: u32, i: u32) -> Result<usize, Missing>
     ensures { result ≡ record_in room.now start end size i }
 {
-    if start < end {
-        if (end as usize) <= room.len() {
-            return place(start, end, room[start as usize], size, i);
-        }
+    if start < end && (end as usize) <= room.len() {
+        return place(start, end, room[start as usize], size, i);
     }
-    Found::Outside
+    Err(Missing::Outside)
 }
 
 // A state, by its number.
-pub fn find_state(room: &[u32], state: u16) -> Found
+pub fn find_state(room: &[u32], state: u16) -> Result<usize, Missing>
     ensures { result ≡ state_at room.now state }
 {
     if CONTINUATIONS_START < room.len() {
         return record_in(room, room[STATES_START], room[RUNS_START], 4, state as u32);
     }
-    Found::Outside
+    Err(Missing::Outside)
 }
 
 // A place that lies in its section, behind the count.
-fn within(start: u32, end: usize, at: u32) -> Found
+fn within(start: u32, end: usize, at: u32) -> Result<usize, Missing>
     ensures { result ≡ within start end at }
 {
-    if start < at {
-        if (at as usize) < end {
-            return Found::At(at as usize);
-        }
+    if start < at && (at as usize) < end {
+        return Ok(at as usize);
     }
-    Found::Outside
+    Err(Missing::Outside)
 }
 
 // The place that is number `i` of the list at `list`, if it lies in the section.
-fn place_in(room: &[u32], start: u32, end: usize, i: u32, list: usize) -> Found
+fn place_in(room: &[u32], start: u32, end: usize, i: u32, list: usize) -> Result<usize, Missing>
     ensures { result ≡ numbered room.now start end list i }
 {
-    if list < room.len() {
-        if list + (i as usize) < room.len() {
-            return within(start, end, room[list + (i as usize)]);
-        }
+    if list < room.len() && list + (i as usize) < room.len() {
+        return within(start, end, room[list + (i as usize)]);
     }
-    Found::Outside
+    Err(Missing::Outside)
 }
 
 // Record `i` of a section whose records vary in length, by its place in the list at `list`.
-fn listed_in(room: &[u32], start: u32, end: usize, i: u32, list: usize) -> Found
+fn listed_in(room: &[u32], start: u32, end: usize, i: u32, list: usize) -> Result<usize, Missing>
     ensures { result ≡ listed_in room.now start end i list }
 {
-    if (start as usize) < end {
-        if end <= room.len() {
-            if i < room[start as usize] {
-                return place_in(room, start, end, i, list);
-            }
-            return Found::Absent;
+    if (start as usize) < end && end <= room.len() {
+        if i < room[start as usize] {
+            return place_in(room, start, end, i, list);
         }
+        return Err(Missing::Absent);
     }
-    Found::Outside
-}
-
-fn wide(number: u32) -> usize
-    ensures { (result ≡ number) × (result ≤ 4294967295) }
-{
-    number as usize
+    Err(Missing::Outside)
 }
 
 // Where section `k` ends: the last one with the words.
@@ -121,9 +98,9 @@ fn end_of(room: &[u32], k: usize) -> usize
     ensures { result ≡ end_of room.now k }
 {
     if k == CONTINUATIONS_START {
-        return HEADER_NUMBERS + wide(room[WORD_COUNT]);
+        return HEADER_NUMBERS + (room[WORD_COUNT] as usize);
     }
-    wide(room[k + 1])
+    room[k + 1] as usize
 }
 
 // The section whose places stand in list `j`.
@@ -131,53 +108,40 @@ fn section_of(j: usize) -> usize
     requires { j ≤ 4 }
     ensures { (result ≡ section_of j) × (result ≤ CONTINUATIONS-START) }
 {
-    if j == 0 {
-        return RUNS_START;
-    }
-    ASCII_START + j
-}
-
-// How many lists stand before that of section `k`.
-fn lists_before(k: usize) -> usize
-    ensures { result ≡ k - ASCII-START }
-{
-    if k < ASCII_START {
-        return 0;
-    }
-    k - ASCII_START
+    if j == 0 { RUNS_START } else { ASCII_START + j }
 }
 
 // Record `i` of a section, by its place in the list behind `count` others.
-fn past_lists(room: &[u32], count: usize, words: u32, start: u32, end: usize, i: u32) -> Found
+fn past_lists(
+    room: &[u32],
+    count: usize,
+    words: u32,
+    start: u32,
+    end: usize,
+    i: u32,
+) -> Result<usize, Missing>
     requires { (count ≤ 4) × (CONTINUATIONS-START < length room.now) }
     ensures { result ≡ past_lists room.now count 0 (HEADER-NUMBERS + words) (listed_in room.now start end i) }
 {
-    let mut left = count;
-    let mut j = 0;
     let mut list = HEADER_NUMBERS + (words as usize);
-    while 0 < left {
-        let k = section_of(j);
-        let at = wide(room[k]);
+    for j in 0..count {
+        let at = room[section_of(j)] as usize;
         if room.len() <= at {
-            return Found::Outside;
+            return Err(Missing::Outside);
         }
-        list += wide(room[at]);
-        j += 1;
-        left -= 1;
+        list += room[at] as usize;
     }
     listed_in(room, start, end, i, list)
 }
 
 // Record `i` of section `k` of the header, whose records vary in length.
-pub fn find_listed(room: &[u32], k: usize, i: u32) -> Found
+pub fn find_listed(room: &[u32], k: usize, i: u32) -> Result<usize, Missing>
     ensures { result ≡ listed_at room.now k i }
 {
-    if CONTINUATIONS_START < room.len() {
-        if k <= CONTINUATIONS_START {
-            let count = lists_before(k);
-            let end = end_of(room, k);
-            return past_lists(room, count, room[WORD_COUNT], room[k], end, i);
-        }
+    if CONTINUATIONS_START < room.len() && k <= CONTINUATIONS_START {
+        let count = k.saturating_sub(ASCII_START);
+        let end = end_of(room, k);
+        return past_lists(room, count, room[WORD_COUNT], room[k], end, i);
     }
-    Found::Outside
+    Err(Missing::Outside)
 }

@@ -1,35 +1,22 @@
-use Rattle.look_continuation_records.proofs.WholeLaws.{walking}
+use native.Mathlib.Omega.{arith}
+use Rattle.std.proofs.lemmas.Grind.{common_steps}
+use Rattle.std.proofs.Common.{◌≡◌}
+use Rattle.std.specs.Prelude.{Ok}
+use Rattle.look_continuation_records.specs.Configs.{past_config}
+use Rattle.look_continuation_records.proofs.WholeLaws.{config_passed, config_refused, configs_done}
 use Rattle.look_continuation_records.proofs.past_configs.Goals as goal
 
-pub loop-left-init : goal.loop-left-init
-loop-left-init c = search walking
+pub returns-in_err-here : goal.returns-in_err-here
+returns-in_err-here c = grind (
+  arith,
+  common_steps,
+  config_refused c.args.room.now c.args.end c.args.count c.loop.counter c.loop.here c.loop.invariant.0,
+)
 
-pub past_config-requires : goal.past_config-requires
-past_config-requires c = search walking
-
-pub enum_known-p : goal.enum_known-p
-enum_known-p c = search walking
-
-pub overflow_sub-left : goal.overflow_sub-left
-overflow_sub-left c = search walking
-
-pub loop-left-smaller : goal.loop-left-smaller
-loop-left-smaller c = search walking
-
-pub loop-left-preserved : goal.loop-left-preserved
-loop-left-preserved c = search walking
-
-pub enum_told-1 : goal.enum_told-1
-enum_told-1 c = search walking
-
-pub returns-in-Absent : goal.returns-in-Absent
-returns-in-Absent c = search walking
-
-pub enum_told-in-Outside : goal.enum_told-in-Outside
-enum_told-in-Outside c = search walking
-
-pub returns-in-Outside : goal.returns-in-Outside
-returns-in-Outside c = search walking
+pub loop-preserved : goal.loop-preserved
+loop-preserved c =
+    let k : past_config c.args.room.now c.args.end c.loop.here ≡ Ok c.in_ok-here.here = grind (arith, common_steps) in
+    config_passed _ _ _ _ _ c.loop.invariant.0 (omega arith) k
 
 pub returns : goal.returns
-returns c = search walking
+returns c = configs_done _ _ _ _ _ c.loop.invariant.0 (omega arith)

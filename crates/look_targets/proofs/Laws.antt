@@ -6,16 +6,15 @@ use mathlib.Core.List.{List}
 use lib.ListN.{length}
 use mir.Syntax.{w64}
 use mir.Val.{Fits}
-use borrow.Author.Rules.{rules}
-use borrow.Author.Tests.{lt-ltb, le-ltb, eq-eqb, ne_eqb}
-use Rattle.room_find.specs.declared.Found.{Found}
-use Rattle.room_find.specs.declared.Found.TheVariants.{At}
+use Rattle.std.specs.Prelude.{Result, Ok}
+use Rattle.room_find.specs.declared.Missing.{Missing}
 use Rattle.refusal.specs.Header.{ASCII-START}
-use Rattle.room_find.proofs.Records.{record_at_in_room, ofstate}
+use Rattle.room_find.proofs.Records.{record_at_in_room, ofstate, oflist}
+use Rattle.look_row.proofs.Searches.{row_missed}
 use Rattle.look_targets.specs.Targets.{ascii_row_at}
 
 -- a symbol's word lies in its row, and the row in the room
-module _ (w : List ℕ) (row : ℕ) {p : ℕ} {got : Found} (g : got ≡ ascii_row_at w row) (e : got ≡ At p) where
+module _ (w : List ℕ) (row : ℕ) {p : ℕ} {got : Result ℕ Missing} (g : got ≡ ascii_row_at w row) (e : got ≡ Ok p) where
   whole : p + 64 ≤ length w
   unfolding ascii_row_at
   whole = record_at_in_room w ASCII-START 64 row (sym g ∙ e)
@@ -26,8 +25,5 @@ module _ (w : List ℕ) (row : ℕ) {p : ℕ} {got : Found} (g : got ≡ ascii_r
   pub symbol-index : (x : ℕ) → x < 128 → length w * 4 < 2 ^ 63 → Fits w64 (p + x / 2)
   symbol-index x h l = record { fits = omega (arith, whole) }
 
--- by the tests on the way
-pub ruleset cases = (rules, lt-ltb, le-ltb, eq-eqb, ne_eqb)
-
--- by what is found
-pub ruleset chain = (ofstate, lt-ltb, le-ltb, symbol-word, symbol-index)
+-- where what is found lies, and that a search that gives nothing led outside
+pub ruleset chain = (ofstate, oflist, symbol-word, symbol-index, row_missed)
