@@ -1,6 +1,6 @@
 -- What encoding answers, and what it leaves in the output: document 01, "Encoding .. NOT-TABLE exactly when the room isn't what decoding
 -- leaves for some accepted words; encoding gives ROOM next, when the output is shorter than needed". Assumes nothing.
-use Rattle.std.specs.Prelude.{ℕ, ◌≤◌, List, length, ltb}
+use Rattle.std.specs.Prelude.{ℕ, List, length, ltb}
 use Rattle.refusal.specs.Said.{NOT-TABLE, ROOM}
 use Rattle.refusal.specs.Lists.{pick}
 use Rattle.buffer.specs.declared.Written.{Written}
@@ -16,8 +16,3 @@ encode_of d n = pick (is_table d) (pick (ltb n (length (words_part d))) (refused
 -- "Refused: all outputs zero. Accepted: outputs past the answer's length zero."
 unfoldable pub out_of : List ℕ → ℕ → List ℕ
 out_of d n = pick (is_table d) (pick (ltb n (length (words_part d))) (zeros n) (padded n (words_part d))) (zeros n)
-
--- from one place of the words to another behind it
-pub record Spans (w : List ℕ) (a b : ℕ) : Type 0 where
-  pub order : a ≤ b
-  pub within : b ≤ length w
