@@ -31,19 +31,6 @@ use Rattle.row_build.specs.Asked.{Zeroed, Asked}
 
 -- The buffers for rows
 
-module _ (a w e : ℕ) where
-  pub ascii_short : a < 128 → true ≡ too_short a w e
-  ascii_short l = rw (lt-ltb a 128 l)
-
-  module _ (k : 128 ≤ a) where
-    pub wide_short : w < 6144 → true ≡ too_short a w e
-    wide_short l = rw (le-ltb a 128 k, lt-ltb w 6144 l)
-
-    pub escape_short : {r : Bool} → 6144 ≤ w → r ≡ ltb e 6144 → r ≡ too_short a w e
-    escape_short m i = rw (le-ltb a 128 k, le-ltb w 6144 m) i
-
-pub ruleset shortening = (rules, ascii_short, wide_short, escape_short)
-
 pub long : (a w e : ℕ) → too_short a w e ≡ false → (128 ≤ a) × (6144 ≤ w) × (6144 ≤ e)
 long a w e h = go (ltb a 128) refl (ltb w 6144) refl (ltb e 6144) refl h
   where
