@@ -2,24 +2,23 @@
 #![tactic(auto)]
 
 ghost use Rattle.std.specs.Prelude.{◌≡◌, ◌*◌, ◌≤◌, length};
-ghost use Rattle.refusal.specs.Lists.{first_equal};
-ghost use Rattle.pool_rows.specs.Pools.{ascii, rows_from, append, find_or_append, intern, Interns};
+ghost use Rattle.pool_rows.specs.Pools.{ascii, append, equal_in, find_or_append, intern, Interns};
 
 use pool_rows::refuse;
 use refusal::{FIELD, NOT_TABLE, ROOM, Refusal};
 
-// The number of the first equal row, or how many rows there are.
-fn first_equal(pool: &[u16], rows: usize, row: &[u16]) -> usize
+// The number of the first equal row.
+fn first_equal(pool: &[u16], rows: usize, row: &[u16]) -> Option<usize>
     requires within { rows * 128 ≤ length pool.now }
     requires size { length row.now ≡ 128 }
-    ensures { result ≡ first_equal row.now (rows_from ascii pool.now rows 0) }
+    ensures { result ≡ equal_in ascii pool.now rows row.now }
 {
     for i in 0..rows {
         if &pool[i * 128..i * 128 + 128] == row {
-            return i;
+            return Some(i);
         }
     }
-    rows
+    None
 }
 
 // Appends a row, if there is room for it.
@@ -42,11 +41,10 @@ fn find_or_append(pool: &mut [u16], rows: usize, row: &[u16]) -> Result<usize, R
     requires size { length row.now ≡ 128 }
     ensures { Interns result pool.old pool.new (find_or_append ascii pool.old rows row.now) }
 {
-    let i = first_equal(pool, rows, row);
-    if i < rows {
-        return Ok(i);
+    match first_equal(pool, rows, row) {
+        Some(i) => Ok(i),
+        None => append_row(pool, rows, row),
     }
-    append_row(pool, rows, row)
 }
 
 // The number of the first row of 128 targets that is equal, which is appended where there is none.

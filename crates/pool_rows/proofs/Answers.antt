@@ -8,15 +8,16 @@ use mathlib.Core.List.{List, ◌∷◌}
 use lib.ListN.{length, get_or, set}
 use borrow.Author.Rules.{rules}
 use borrow.Author.Tests.{lt-ltb, le-ltb, le-leb, lt-leb, eq-eqb, ne_eqb}
-use Rattle.refusal.specs.Lists.{first_equal}
+use Rattle.refusal.specs.Lists.{pick, first_equal}
+use Rattle.std.proofs.lemmas.Option.{none-some}
 use Rattle.refusal.specs.Said.{Said, ok, no_by, no, FIELD, ROOM, NOT-TABLE}
 use Rattle.refusal.specs.Fixed.{NONE}
 use borrow.Rule.Slice.PartMut.{put_mid}
 use Rattle.buffer.specs.Over.{lay}
-use Rattle.std.specs.Prelude.{Result, Ok, Err}
+use Rattle.std.specs.Prelude.{ltb, Option, Some, None, Result, Ok, Err}
 use Rattle.refusal.specs.declared.Refusal.{Refusal}
-use Rattle.pool_rows.specs.Pools.{Kind, ascii, wide, standing, rows_from, after_rows, in_threes, good, countable}
-use Rattle.pool_rows.specs.Pools.{append, first_in, find_or_append, intern, said, Interns}
+use Rattle.pool_rows.specs.Pools.{Kind, ascii, wide, standing, rows_from, after_rows, in_threes, good, countable, Outcome, found}
+use Rattle.pool_rows.specs.Pools.{append, first_in, equal_in, find_or_append, intern, said, Interns}
 use Rattle.pool_rows.proofs.Rows.{threes_length, laid-part, stored-part}
 
 -- ascii rows end at a multiple of their size
@@ -46,13 +47,28 @@ module _ (k : Kind) (w : List ℕ) (n : ℕ) (row : List ℕ) {end : ℕ} (b : e
 -- An equal row is found, or none is
 
 module _ (k : Kind) (w : List ℕ) (n : ℕ) (row : List ℕ) {i : ℕ} (e : i ≡ first_in k w n row) where
-  pub find_there : i < n → Interns (Ok i) w w (find_or_append k w n row)
-  unfolding find_or_append
-  find_there h = rw (← e, lt-ltb i n h) (record { says = refl; leaves = refl })
+  pub equal_some : i < n → Some i ≡ equal_in k w n row
+  equal_some h = rw (← e, lt-ltb i n h)
 
-  pub find_none : {r : Result ℕ Refusal} {out : List ℕ} → n ≤ i → Interns r w out (append k w n row) → Interns r w out (find_or_append k w n row)
+  pub equal_none : n ≤ i → None ≡ equal_in k w n row
+  equal_none h = rw (← e, le-ltb i n h)
+
+found_by : (t : Bool) (f i : ℕ) (o : Outcome) → pick t (Some f) None ≡ Some i → pick t (found f) o ≡ found i
+found_by true f i o e = let z : f ≡ i = cc in ap found z
+found_by false f i o e = absurd (none-some i e)
+
+none_by : (t : Bool) (f : ℕ) (o : Outcome) → pick t (Some f) None ≡ None → pick t (found f) o ≡ o
+none_by true f o e = absurd (none-some f (sym e))
+none_by false f o e = refl
+
+module _ (k : Kind) (w : List ℕ) (n : ℕ) (row : List ℕ) {r : Option ℕ} (e : r ≡ equal_in k w n row) where
+  pub find_there : {i : ℕ} → r ≡ Some i → Interns (Ok i) w w (find_or_append k w n row)
   unfolding find_or_append
-  find_none h a = rw (← e, le-ltb i n h) a
+  find_there {i} h = rw (found_by (ltb (first_in k w n row) n) (first_in k w n row) i (append k w n row) (sym e ∙ h)) (record { says = refl; leaves = refl })
+
+  pub find_none : {x : Result ℕ Refusal} {out : List ℕ} → r ≡ None → Interns x w out (append k w n row) → Interns x w out (find_or_append k w n row)
+  unfolding find_or_append
+  find_none h a = rw (none_by (ltb (first_in k w n row) n) (first_in k w n row) (append k w n row) (sym e ∙ h)) a
 
 -- The order of the refusals
 
@@ -126,11 +142,11 @@ module _ (w : List ℕ) (n : ℕ) (row : List ℕ) where
     counted : i ≡ first_in wide w n row
     counted = e ∙ ap (λ (m : ℕ). first_equal (m ∷ row) (rows_from wide w n 0)) q
 
-    pub wide_there : i < n → Interns (Ok i) w w (find_or_append wide w n row)
-    wide_there h = find_there wide w n row counted h
+    pub wide_some : i < n → Some i ≡ equal_in wide w n row
+    wide_some h = equal_some wide w n row counted h
 
-    pub wide_none : {r : Result ℕ Refusal} {out : List ℕ} → n ≤ i → Interns r w out (append wide w n row) → Interns r w out (find_or_append wide w n row)
-    wide_none h a = find_none wide w n row counted h a
+    pub wide_none : n ≤ i → None ≡ equal_in wide w n row
+    wide_none h = equal_none wide w n row counted h
 
   module _ {end : ℕ} (b : min (1 + length w) end ≡ min (1 + length w) (after_rows wide w n 0)) where
     pub wide_outside : {r : Result ℕ Refusal} → length w < end → said r ≡ no NOT-TABLE 0 → Interns r w w (intern wide w n row)
@@ -156,7 +172,7 @@ wide_length row g f = threes_length row (sym g ∙ f)
 
 pub ruleset appending-wide = (rules, wide_room, wide_put)
 
-pub ruleset answering-wide = (rules, wide_there, wide_none, wide_fits, wide_outside, wide_ends, wide_field, wide_many, wide_into, wide_length)
+pub ruleset answering-wide = (rules, find_there, find_none, wide_fits, wide_outside, wide_ends, wide_field, wide_many, wide_into, wide_length)
 
 -- `said` takes no two answers to one: what it says gives the answer back
 abbrev back : Said → Result ℕ Refusal

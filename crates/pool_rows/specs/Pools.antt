@@ -1,6 +1,6 @@
 -- Pools of rows (document 01, "Transitions, segments, rows"). w is the pool, n how many rows are stated to stand in it, row the one that is
 -- interned. Assumes nothing.
-use Rattle.std.specs.Prelude.{ℕ, zero, suc, ◌+◌, ◌*◌, ◌/◌, ◌≡◌, Bool, true, false, ◌&&◌, Result, Ok, Err, List, [], ◌∷◌, ltb, leb, eqb, length, get_or, take, drop}
+use Rattle.std.specs.Prelude.{ℕ, zero, suc, ◌+◌, ◌*◌, ◌/◌, ◌≡◌, Bool, true, false, ◌&&◌, Option, Some, None, Result, Ok, Err, List, [], ◌∷◌, ltb, leb, eqb, length, get_or, take, drop}
 use Rattle.refusal.specs.declared.Refusal.{Refusal}
 use Rattle.refusal.specs.Said.{Said, ok, no_by, no, FIELD, ROOM, NOT-TABLE}
 use Rattle.refusal.specs.Lists.{pick, first_equal}
@@ -61,6 +61,10 @@ append k w n row = pick (ltb (length w) (after_rows k w n 0 + length (standing k
 -- the number of the first of the rows in the pool that is equal
 abbrev pub first_in : Kind → List ℕ → ℕ → List ℕ → ℕ
 first_in k w n row = first_equal (standing k row) (rows_from k w n 0)
+
+-- .. if one is
+abbrev pub equal_in : Kind → List ℕ → ℕ → List ℕ → Option ℕ
+equal_in k w n row = pick (ltb (first_in k w n row) n) (Some (first_in k w n row)) None
 
 unfoldable pub find_or_append : Kind → List ℕ → ℕ → List ℕ → Outcome
 find_or_append k w n row = pick (ltb (first_in k w n row) n) (found (first_in k w n row)) (append k w n row)

@@ -2,8 +2,8 @@
 #![tactic(auto)]
 
 ghost use Rattle.std.specs.Prelude.{◌≡◌, ◌+◌, ◌*◌, ◌/◌, ◌^◌, ◌<◌, ◌≤◌, min, ◌∷◌, length, take, drop};
-ghost use Rattle.refusal.specs.Lists.{same_list, first_equal};
-ghost use Rattle.pool_rows.specs.Pools.{wide, size_at, rows_from, after_rows, in_threes, append, find_or_append, intern, Interns};
+ghost use Rattle.refusal.specs.Lists.{same_list};
+ghost use Rattle.pool_rows.specs.Pools.{wide, size_at, after_rows, in_threes, append, equal_in, find_or_append, intern, Interns};
 
 use pool_rows::refuse;
 use refusal::{FIELD, NOT_TABLE, ROOM, Refusal};
@@ -39,20 +39,21 @@ fn same_at(pool: &[u32], at: usize, count: u32, row: &[u32]) -> bool
     pool[at] == count && pool[at + 1..].starts_with(row)
 }
 
-// The number of the first equal row, or how many rows there are.
-fn first_equal(pool: &[u32], rows: usize, count: u32, row: &[u32]) -> usize
+// The number of the first equal row.
+fn first_equal(pool: &[u32], rows: usize, count: u32, row: &[u32]) -> Option<usize>
     requires within { after_rows wide pool.now rows 0 ≤ length pool.now }
+    requires counts { count ≡ length row.now / 3 }
     requires size { length row.now ≡ count * 3 }
-    ensures { result ≡ first_equal (count ∷ row.now) (rows_from wide pool.now rows 0) }
+    ensures { result ≡ equal_in wide pool.now rows row.now }
 {
     let mut at = 0;
     for i in 0..rows {
         if same_at(pool, at, count, row) {
-            return i;
+            return Some(i);
         }
         at = row_end(at, pool[at]);
     }
-    rows
+    None
 }
 
 // Is it a row of ranges whose targets their field allows?
@@ -102,11 +103,10 @@ fn find_or_append(
     requires size { length row.now ≡ count * 3 }
     ensures { Interns result pool.old pool.new (find_or_append wide pool.old rows row.now) }
 {
-    let i = first_equal(pool, rows, count, row);
-    if i < rows {
-        return Ok(i);
+    match first_equal(pool, rows, count, row) {
+        Some(i) => Ok(i),
+        None => append_row(pool, rows, end, count, row),
     }
-    append_row(pool, rows, end, count, row)
 }
 
 // The number of the first row of ranges that is equal, which is appended where there is none.

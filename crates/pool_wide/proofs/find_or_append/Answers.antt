@@ -2,8 +2,8 @@
 use Rattle.pool_rows.proofs.Answers.{answering-wide}
 use Rattle.pool_wide.proofs.find_or_append.Goals as goal
 
-pub returns-then-i-rows : goal.returns-then-i-rows
-returns-then-i-rows c = search answering-wide
+pub returns-in-Some : goal.returns-in-Some
+returns-in-Some c = search answering-wide
 
-pub returns : goal.returns
-returns c = search answering-wide
+pub returns-in-None : goal.returns-in-None
+returns-in-None c = search answering-wide
