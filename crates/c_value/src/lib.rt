@@ -7,8 +7,7 @@ ghost use Rattle.room_find.specs.Answer.{said};
 ghost use Rattle.c_value.specs.Value.{value_in_c};
 ghost use Rattle.c_value.specs.Written.{written_in_c};
 
-use buffer::Written;
-use refusal::{NOT_TABLE, STATE};
+use refusal::{NOT_TABLE, Refusal, STATE};
 use room_find::Missing;
 
 // What a lookup answers, in one register with the value in its low half. A lookup's refusal has place 0, which is left out.
@@ -47,17 +46,17 @@ pub struct CWritten {
 }
 
 // What was written, in C.
-pub fn written_in_c(written: Written) -> CWritten
+pub fn written_in_c(written: Result<usize, Refusal>) -> CWritten
     ensures { result ≡ written_in_c (writing.said written) }
 {
     match written {
-        Written::Numbers(n) => CWritten {
+        Ok(n) => CWritten {
             number: 0,
             item: 0,
             place: 0,
             length: n,
         },
-        Written::Refused(refused) => CWritten {
+        Err(refused) => CWritten {
             number: refused.number,
             item: refused.item,
             place: refused.place,

@@ -9,7 +9,6 @@ use lib.ListN.{length, take, length-map, length-append, length-replicate}
 use lib.Seq.{take_at}
 use borrow.Author.Tests.{le-ltb, eq-eqb}
 use Rattle.refusal.proofs.Lists.{equal_same}
-use Rattle.buffer.specs.declared.Written.TheVariants.{Numbers}
 use Rattle.buffer.specs.Over.{zeros, padded}
 use Rattle.room_fill.specs.Room.{room_for}
 use Rattle.room_fill.proofs.Sizes.{numbers-length}
@@ -28,6 +27,7 @@ use Rattle.law_tables.proofs.Obeyed.{obeys_accepted}
 use Rattle.law_tables.specs.Normal.{normal_accept, normal_config, normal_continuation, normal}
 use Rattle.law_round_trip.specs.Trip.{Trip, Left}
 use Rattle.law_tables.proofs.Normal.{all_to, normal-fields, normal_size, offsets, numbers_of, numbers_are, same_numbers}
+use Rattle.std.specs.Prelude.{Ok}
 
 -- The rules do not look at flags
 
@@ -111,11 +111,11 @@ module _ (t : Table) (h : Fields t) (r : Rules t) (l : length (words_of t) ≤ 8
   unfolding is_table
   room-held = rw (room-part, room_size, decoded_again, table_decoded t h r l n room, room_again) (equal_same (room_of (words_of t) n))
 
-  room_encoded : (k : ℕ) → length (words_of t) ≤ k → encode_of (room_of (words_of t) n) k ≡ Numbers (length (words_of t))
+  room_encoded : (k : ℕ) → length (words_of t) ≤ k → encode_of (room_of (words_of t) n) k ≡ Ok (length (words_of t))
   unfolding encode_of
   room_encoded k i =
       let j : length (words_of (normal t)) ≤ k = omega (arith, normal_size t) in
-      rw (room-held, room-part, le-ltb k (length (words_of (normal t))) j) (ap Numbers (normal_size t))
+      rw (room-held, room-part, le-ltb k (length (words_of (normal t))) j) (ap Ok (normal_size t))
 
   room_out : (k : ℕ) → length (words_of t) ≤ k → out_of (room_of (words_of t) n) k ≡ padded k (words_of (normal t))
   unfolding out_of

@@ -1,6 +1,5 @@
 -- Demand 2's round trip, as it is stated: for words that decoding accepts into a room of n numbers. Assumes nothing.
 use Rattle.std.specs.Prelude.{ℕ, ◌≤◌, ◌≡◌, true, List, length}
-use Rattle.buffer.specs.declared.Written.TheVariants.{Numbers}
 use Rattle.buffer.specs.Over.{padded}
 use Rattle.room_decode.specs.Decode.{decode_of, room_of}
 use Rattle.room_judge.specs.Judge.{words_part, accepted, is_table}
@@ -8,6 +7,7 @@ use Rattle.room_encode.specs.Encode.{encode_of, out_of}
 use Rattle.law_tables.specs.Table.{Table, Fields, words_of}
 use Rattle.law_tables.specs.Rules.{Rules}
 use Rattle.law_tables.specs.Normal.{normal}
+use Rattle.std.specs.Prelude.{Ok}
 
 pub record Trip (w : List ℕ) (n : ℕ) : Type 0 where
   -- the words are those of a table that obeys the rules
@@ -19,7 +19,7 @@ pub record Trip (w : List ℕ) (n : ℕ) : Type 0 where
   pub held : is_table (room_of w n) ≡ true
   pub part : words_part (room_of w n) ≡ words_of (normal table)
   -- encoding it gives those words, as many as there were
-  pub encoded : (k : ℕ) → length w ≤ k → encode_of (room_of w n) k ≡ Numbers (length w)
+  pub encoded : (k : ℕ) → length w ≤ k → encode_of (room_of w n) k ≡ Ok (length w)
   pub out : (k : ℕ) → length w ≤ k → out_of (room_of w n) k ≡ padded k (words_of (normal table))
   -- decoding those gives the same answer, and the same room, number for number
   pub again : decode_of (words_of (normal table)) n ≡ decode_of w n

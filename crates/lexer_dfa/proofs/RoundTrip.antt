@@ -13,7 +13,6 @@ use contract.Lifetimes.{Lfts}
 use Rattle.std.specs.Borrow.{Bor, MutBor}
 use Rattle.refusal.specs.declared.Refusal.{Refusal}
 use Rattle.refusal.specs.Said.{Said, refusal_at, ok, no_by, no, NOT-TABLE, ROOM}
-use Rattle.buffer.specs.declared.Written.{Written}
 use Rattle.buffer.specs.Written.{said}
 use Rattle.buffer.specs.Over.{zeros}
 use Rattle.room_decode.specs.declared.Decoded.{Decoded}
@@ -30,17 +29,18 @@ use Rattle.law_round_trip.specs.Trip.{Trip, Left}
 use Rattle.law_tables.proofs.Normal.{normal_size}
 use Rattle.law_round_trip.proofs.RoundTrip.{round_trip, left-held}
 use Rattle.lexer_dfa.specs.Demands.{DecodeAnswers, EncodeAnswers, RoundTrip, Leaves, EncodedBy}
+use Rattle.std.specs.Prelude.{Result, Err}
 
 -- There and back
 
 -- an answer that says a table's counts is a table
 pub said-accepted : (x : Decoded) {l : List ℕ} → decoding.said x ≡ ok l → accepted x ≡ true
 said-accepted (Table m s w) e = refl
-said-accepted (Refused r) e = let z : ◌≡◌ {A = ℕ} 0 1 = cc in absurd (omega arith)
+said-accepted (Err r) e = let z : ◌≡◌ {A = ℕ} 0 1 = cc in absurd (omega arith)
 
 accepted-said : (x : Decoded) → accepted x ≡ true → (m : ℕ) × (s : ℕ) × (w : ℕ) × (decoding.said x ≡ ok (m ∷ s ∷ w ∷ []))
 accepted-said (Table m s w) e = (m, s, w, refl)
-accepted-said (Refused r) e = absurd (false≢true e)
+accepted-said (Err r) e = absurd (false≢true e)
 
 -- the words that are left in a room are as many as were decoded into it
 trip_size : {w : List ℕ} {n : ℕ} (t : Trip w n) → length (words_of (normal t.table)) ≡ length w
@@ -182,7 +182,7 @@ module _ (d : List ℕ) (n : ℕ) where
 
 -- "Encoding and coverage give NOT-TABLE exactly when the room isn't what decoding leaves for some accepted words; encoding gives ROOM next, when the output is
 -- shorter than needed": and else it accepts, so that every room that it accepts comes from decoding
-pub encode_answers : (room : Bor (List ℕ)) (out : MutBor (List ℕ)) → Fit room.now → (x : Written) (left : List ℕ) → EncodeAnswers room out x left →
+pub encode_answers : (room : Bor (List ℕ)) (out : MutBor (List ℕ)) → Fit room.now → (x : Result ℕ Refusal) (left : List ℕ) → EncodeAnswers room out x left →
     EncodedBy room.now (length out.now) (said x)
 encode_answers room out f x left a =
     let d = room.now in
@@ -206,7 +206,7 @@ encode_answers room out f x left a =
     })
 
 -- "Refused: all outputs zero."
-pub encode_refused_zero : (room : Bor (List ℕ)) (out : MutBor (List ℕ)) (x : Written) (left : List ℕ) → EncodeAnswers room out x left →
+pub encode_refused_zero : (room : Bor (List ℕ)) (out : MutBor (List ℕ)) (x : Result ℕ Refusal) (left : List ℕ) → EncodeAnswers room out x left →
     (r : Refusal) → said x ≡ no_by r → left ≡ zeros (length out.now)
 encode_refused_zero room out x left a r e =
     let d = room.now in

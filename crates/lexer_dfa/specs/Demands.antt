@@ -5,7 +5,6 @@ use Rattle.std.specs.Borrow.{Bor, MutBor}
 use Rattle.refusal.specs.declared.Refusal.{Refusal}
 use Rattle.refusal.specs.Said.{Said, no_by, ok, no, NOT-TABLE, ROOM}
 use Rattle.refusal.specs.Lists.{some}
-use Rattle.buffer.specs.declared.Written.{Written}
 use Rattle.buffer.specs.Written as written
 use Rattle.buffer.specs.Over.{padded}
 use Rattle.run_ranges.specs.declared.AsciiRange.{AsciiRange}
@@ -34,6 +33,7 @@ use Rattle.room_encode.proofs.encode.Reads as encode
 use Rattle.room_find.specs.declared.Answer.{Answer}
 use Rattle.room_coverage.specs.OnTable.{coverage_on}
 use Rattle.room_coverage.proofs.coverage.Reads as coverage
+use Rattle.std.specs.Prelude.{Result}
 
 -- Demand 2: "Given its room, decoding accepts the lists of up to 8,192 words that meet the layout and the nine index rules, and no others."
 
@@ -56,7 +56,7 @@ pub record Accepted (w : List ℕ) (modes states words : ℕ) : Type 0 where
 -- Demand 2: "Encoding the result gives the same words with nonzero flags made 1; decoding that gives the same table."
 
 -- encode may answer x by its own contract, and leave these numbers in the output, which is its second argument at exit
-abbrev pub EncodeAnswers : (room : Bor (List ℕ)) (out : MutBor (List ℕ)) → Written → List ℕ → Type 0
+abbrev pub EncodeAnswers : (room : Bor (List ℕ)) (out : MutBor (List ℕ)) → Result ℕ Refusal → List ℕ → Type 0
 EncodeAnswers room out x left = (κs : Lfts 2) × (e : _) × encode.Learnt κs (room, (out, tt)) x e × (e.1.0.now ≡ left)
 
 -- v is the words w with nonzero flags made 1: w is the words of a table, and v those of the table with its flags so made
@@ -72,7 +72,7 @@ pub record RoundTrip (w : List ℕ) (n : ℕ) (x : Decoded) (d : List ℕ) : Typ
   pub flags : FlagsMade w made
   pub as_many : length made ≡ length w
   -- encoding the room into an output that is long enough answers how many words there are, and leaves them with nonzero flags made 1, then zeros
-  pub encoded : (room : Bor (List ℕ)) (out : MutBor (List ℕ)) → room.now ≡ d → length w ≤ length out.now → (y : Written) (left : List ℕ) → EncodeAnswers room out y left →
+  pub encoded : (room : Bor (List ℕ)) (out : MutBor (List ℕ)) → room.now ≡ d → length w ≤ length out.now → (y : Result ℕ Refusal) (left : List ℕ) → EncodeAnswers room out y left →
       (written.said y ≡ ok (length w ∷ [])) × (left ≡ padded (length out.now) made)
   -- decoding those into a room of as many numbers gives the same answer, and leaves the same room, number for number
   pub again : (words : Bor (List ℕ)) (room : MutBor (List ℕ)) → words.now ≡ made → length room.now ≡ n → (y : Decoded) (left : List ℕ) → DecodeAnswers words room y left →

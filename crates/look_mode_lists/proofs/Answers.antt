@@ -9,8 +9,6 @@ use lib.ListN.{length, take, drop, length-append}
 use borrow.Author.Rules.{rules}
 use borrow.Author.Tests.{lt-ltb, le-ltb}
 use Rattle.refusal.specs.Said.{ok, ROOM, NOT-TABLE, ORDER}
-use Rattle.buffer.specs.declared.Written.{Written}
-use Rattle.buffer.specs.declared.Written.TheVariants.{Numbers}
 use Rattle.buffer.specs.Over.{Put, zeros}
 use Rattle.std.specs.Prelude.{Result, Ok, Err}
 use Rattle.room_find.specs.declared.Missing.{Missing}
@@ -25,6 +23,7 @@ use Rattle.look_modes.specs.Start.{compiled}
 use Rattle.look_mode_lists.proofs.Walks.{compiled_counted}
 use Rattle.look_mode_lists.proofs.Lists.{written, unwritten, cleared_length, cleared}
 use Rattle.look_mode_lists.specs.Counts.{compiled_of, differences, counts_of, descent, counts_for, limit_of, counts_with, asked, mode_state_counts}
+use Rattle.refusal.specs.declared.Refusal.{Refusal}
 
 differences-length : (x : ℕ) (l : List ℕ) → length (differences (x ∷ l)) ≡ length l
 unfolding differences
@@ -40,12 +39,12 @@ module _ (l : List ℕ) (c : ℕ) {k : ℕ} (e : k ≡ count_by compiled l) wher
   pub counts_fit : {n : ℕ} → k ≤ n → 0 + length (counts_of c l) ≤ n
   counts_fit h = omega (arith, counts_length c (compiled_of l), compiled_counted l)
 
-  pub counts_room : (n : ℕ) {r : Written} {new : List ℕ} → n < k → Writes r n new (refused ROOM 0) → Writes r n new (counts_for n c l)
+  pub counts_room : (n : ℕ) {r : Result ℕ Refusal} {new : List ℕ} → n < k → Writes r n new (refused ROOM 0) → Writes r n new (counts_for n c l)
   unfolding counts_for
   counts_room n h g = let q : ltb n (length (compiled_of l)) ≡ true = lt-ltb n (length (compiled_of l)) (omega (arith, compiled_counted l)) in rw q g
 
   module _ {p : ℕ} (f : p ≡ descent 0 l) where
-    pub counts_order : (n : ℕ) {r : Written} {new : List ℕ} → k ≤ n → p < length l → Writes r n new (refused ORDER p) → Writes r n new (counts_for n c l)
+    pub counts_order : (n : ℕ) {r : Result ℕ Refusal} {new : List ℕ} → k ≤ n → p < length l → Writes r n new (refused ORDER p) → Writes r n new (counts_for n c l)
     unfolding counts_for
     counts_order n h i g =
         let q : ltb n (length (compiled_of l)) ≡ false = le-ltb n (length (compiled_of l)) (omega (arith, compiled_counted l)) in
@@ -53,7 +52,7 @@ module _ (l : List ℕ) (c : ℕ) {k : ℕ} (e : k ≡ count_by compiled l) wher
         rw (q, s, ← f) g
 
     pub counts_written : (d : List ℕ) {r : ℕ} {new : List ℕ} → k ≤ length d → length l ≤ p → d ≡ zeros (length d) → Put (counts_of c l) 0 d r new
-        → Writes (Numbers r) (length d) new (counts_for (length d) c l)
+        → Writes (Ok r) (length d) new (counts_for (length d) c l)
     unfolding counts_for
     counts_written d h i z g =
         let q : ltb (length d) (length (compiled_of l)) ≡ false = le-ltb (length d) (length (compiled_of l)) (omega (arith, compiled_counted l)) in
@@ -65,7 +64,7 @@ pub ruleset listing = (rules, unwritten, counts_fit, counts_room, counts_order, 
 
 -- The modes are found, or outside
 
-module _ (w : List ℕ) (n c : ℕ) {k : ℕ} {got : Result Span Missing} {r : Written} {new : List ℕ} (g : got ≡ modes_up_to w k) (e : k ≡ limit_of c) where
+module _ (w : List ℕ) (n c : ℕ) {k : ℕ} {got : Result Span Missing} {r : Result ℕ Refusal} {new : List ℕ} (g : got ≡ modes_up_to w k) (e : k ≡ limit_of c) where
   pub counts_there : {t : Span} → got ≡ Ok t → Writes r n new (counts_for n c (take (t.from + t.length - t.from) (drop t.from w))) → Writes r n new (counts_with w n c)
   unfolding counts_with of_modes
   counts_there {t} h l =
@@ -78,7 +77,7 @@ module _ (w : List ℕ) (n c : ℕ) {k : ℕ} {got : Result Span Missing} {r : W
 
 -- The count of states is asked for, once the buffer is cleared
 
-module _ (old : List ℕ) {d : List ℕ} (z : d ≡ zeros (length old)) (w : List ℕ) {r : Written} {new : List ℕ} {x : Result ℕ Missing}
+module _ (old : List ℕ) {d : List ℕ} (z : d ≡ zeros (length old)) (w : List ℕ) {r : Result ℕ Refusal} {new : List ℕ} {x : Result ℕ Missing}
     (g : answer.said x ≡ state_count w) where
   pub counts_asked : {c : ℕ} → x ≡ Ok c → Writes r (length d) new (counts_with w (length d) c) → Writes r (length old) new (mode_state_counts w (length old))
   unfolding asked

@@ -7,8 +7,6 @@ use lib.ListN.{length, get_or, set, take, drop, length-map}
 use borrow.Author.Rules.{rules}
 use borrow.Author.Tests.{le-leb, lt-leb, lt-ltb, le-ltb}
 use Rattle.refusal.specs.Said.{ROOM, NOT-TABLE}
-use Rattle.buffer.specs.declared.Written.{Written}
-use Rattle.buffer.specs.declared.Written.TheVariants.{Numbers}
 use Rattle.buffer.specs.Over.{Put, zeros}
 use Rattle.buffer.proofs.Going.{Going, going_start, going_done, going_place, going_put}
 use Rattle.std.specs.Prelude.{Result, Ok, Err}
@@ -21,6 +19,7 @@ use Rattle.look_modes.proofs.AllModesLaws.{modes_lie}
 use Rattle.look_mode_lists.specs.Written.{refused, Writes}
 use Rattle.look_mode_lists.specs.Flags.{flag, flags_for, mode_flags}
 use Rattle.look_mode_lists.proofs.Lists.{written, unwritten, cleared_length, cleared}
+use Rattle.refusal.specs.declared.Refusal.{Refusal}
 
 -- by the tests on the way
 pub ruleset cases = (rules, le-leb, lt-leb)
@@ -52,11 +51,11 @@ module _ (l : List ℕ) where
   pub flags_fit : {n : ℕ} → length l ≤ n → 0 + length (map flag l) ≤ n
   flags_fit h = omega (arith, length-map l flag)
 
-  pub flags-room : (n : ℕ) {r : Written} {new : List ℕ} → n < length l → Writes r n new (refused ROOM 0) → Writes r n new (flags_for n l)
+  pub flags-room : (n : ℕ) {r : Result ℕ Refusal} {new : List ℕ} → n < length l → Writes r n new (refused ROOM 0) → Writes r n new (flags_for n l)
   flags-room n h k = rw (lt-ltb n (length l) h) k
 
   pub flags-written : (d : List ℕ) {r : ℕ} {new : List ℕ} → length l ≤ length d → d ≡ zeros (length d) → Put (map flag l) 0 d r new
-      → Writes (Numbers r) (length d) new (flags_for (length d) l)
+      → Writes (Ok r) (length d) new (flags_for (length d) l)
   flags-written d h z p =
       let f : length (map flag l) ≤ length d = omega (arith, length-map l flag) in
       rw (le-ltb (length d) (length l) h) (written (map flag l) d f z p)
@@ -65,7 +64,7 @@ pub ruleset listing = (rules, unwritten, flags_fit, flags-room, flags-written)
 
 -- The modes are found, or outside
 
-module _ (old : List ℕ) {d : List ℕ} (z : d ≡ zeros (length old)) (w : List ℕ) {r : Written} {new : List ℕ} {got : Result Span Missing} (g : got ≡ modes_up_to w 65535) where
+module _ (old : List ℕ) {d : List ℕ} (z : d ≡ zeros (length old)) (w : List ℕ) {r : Result ℕ Refusal} {new : List ℕ} {got : Result Span Missing} (g : got ≡ modes_up_to w 65535) where
   pub flags-there : {t : Span} → got ≡ Ok t → Writes r (length d) new (flags_for (length d) (take (t.from + t.length - t.from) (drop t.from w)))
       → Writes r (length old) new (mode_flags w (length old))
   unfolding of_modes

@@ -6,20 +6,20 @@ use mathlib.Core.List.{List, [], ◌∷◌}
 use lib.ListN.{length, get_or, drop, drop_of_length-le, length-replicate}
 use Rattle.std.proofs.Common.{drop-cons}
 use Rattle.refusal.specs.Said.{ok, refusal_at}
-use Rattle.buffer.specs.declared.Written.{Written}
-use Rattle.buffer.specs.declared.Written.TheVariants.{Numbers, Refused}
 use Rattle.buffer.specs.Over.{lay, Put, zeros}
 use Rattle.buffer.proofs.Overs.{lay-zeros}
 use Rattle.look_mode_lists.specs.Written.{wrote, refused, Writes}
+use Rattle.std.specs.Prelude.{Result, Ok, Err}
+use Rattle.refusal.specs.declared.Refusal.{Refusal}
 
 -- a list that was written over zeros
-pub written : (l d : List ℕ) {r : ℕ} {new : List ℕ} → length l ≤ length d → d ≡ zeros (length d) → Put l 0 d r new → Writes (Numbers r) (length d) new (wrote l)
+pub written : (l d : List ℕ) {r : ℕ} {new : List ℕ} → length l ≤ length d → d ≡ zeros (length d) → Put l 0 d r new → Writes (Ok r) (length d) new (wrote l)
 written l d {r} h z p =
     let n : r ≡ length l = omega (arith, p.next) in
     record { says = ap (λ (k : ℕ). ok (k ∷ [])) n; leaves = p.is ∙ ap (lay 0 l) z ∙ lay-zeros (length d) l h }
 
 -- a refusal, with nothing written
-pub unwritten : (d : List ℕ) {n p : ℕ} {r : Written} → r ≡ Refused (refusal_at n p) → d ≡ zeros (length d) → Writes r (length d) d (refused n p)
+pub unwritten : (d : List ℕ) {n p : ℕ} {r : Result ℕ Refusal} → r ≡ Err (refusal_at n p) → d ≡ zeros (length d) → Writes r (length d) d (refused n p)
 unwritten d e z = record { says = rw e; leaves = z }
 
 -- The buffer was cleared first

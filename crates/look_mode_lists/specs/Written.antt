@@ -1,9 +1,10 @@
 -- What a call that writes a list into a lent buffer answers and leaves there. Assumes nothing.
 use Rattle.std.specs.Prelude.{ℕ, ◌≡◌, List, [], ◌∷◌, length}
 use Rattle.refusal.specs.Said.{Said, ok, no}
-use Rattle.buffer.specs.declared.Written.{Written}
 use Rattle.buffer.specs.Written.{said}
 use Rattle.buffer.specs.Over.{zeros, padded}
+use Rattle.std.specs.Prelude.{Result}
+use Rattle.refusal.specs.declared.Refusal.{Refusal}
 
 -- a list that is written, or a refusal by number and place
 pub data Wrote : Type 0 where
@@ -21,6 +22,6 @@ left_in n (wrote l) = padded n l
 left_in n (refused k p) = zeros n
 
 -- the answer says it, and a buffer of n numbers holds it
-pub record Writes (r : Written) (n : ℕ) (out : List ℕ) (g : Wrote) : Type 0 where
+pub record Writes (r : Result ℕ Refusal) (n : ℕ) (out : List ℕ) (g : Wrote) : Type 0 where
   pub says : said r ≡ wrote_said g
   pub leaves : out ≡ left_in n g

@@ -11,14 +11,13 @@ ghost use Rattle.look_mode_lists.specs.Written.{Writes};
 ghost use Rattle.look_mode_lists.specs.Flags.{flag, flags_for, mode_flags};
 ghost use Rattle.look_mode_lists.specs.Counts.{counts_of, later, descent, counts_for, limit_of, counts_with, mode_state_counts, gap, step};
 
-use buffer::Written;
 use refusal::{NONE, NOT_TABLE, ORDER, ROOM, Refusal, STATE};
 use room_find::Missing;
 
-fn refuse(number: u32, place: usize) -> Written
-    ensures { result ≡ Written.Refused (refusal_at number place) }
+fn refuse(number: u32, place: usize) -> Result<usize, Refusal>
+    ensures { result ≡ Err (refusal_at number place) }
 {
-    Written::Refused(Refusal {
+    Err(Refusal {
         number,
         item: 0,
         place,
@@ -48,18 +47,18 @@ fn put_flags(starts: &[u32], out: &mut [u32]) -> usize
 }
 
 // The flags of modes with these starts, into a buffer of zeros.
-fn flags_into(starts: &[u32], out: &mut [u32]) -> Written
+fn flags_into(starts: &[u32], out: &mut [u32]) -> Result<usize, Refusal>
     requires { out.old ≡ zeros (length out.old) }
     ensures { Writes result (length out.old) out.new (flags_for (length out.old) starts.now) }
 {
     if out.len() < starts.len() {
         return refuse(ROOM, 0);
     }
-    Written::Numbers(put_flags(starts, out))
+    Ok(put_flags(starts, out))
 }
 
 // For each mode 1 where it is compiled, else 0.
-pub fn compiled_mode_flags(room: &[u32], out: &mut [u32]) -> Written
+pub fn compiled_mode_flags(room: &[u32], out: &mut [u32]) -> Result<usize, Refusal>
     ensures { Writes result (length out.old) out.new (mode_flags room.now (length out.old)) }
 {
     buffer::clear(out);
@@ -135,7 +134,7 @@ fn put_counts(starts: &[u32], states: u32, out: &mut [u32]) -> usize
 }
 
 // The state counts of modes with these starts, into a buffer of zeros.
-fn counts_into(starts: &[u32], states: u32, out: &mut [u32]) -> Written
+fn counts_into(starts: &[u32], states: u32, out: &mut [u32]) -> Result<usize, Refusal>
     requires { out.old ≡ zeros (length out.old) }
     ensures { Writes result (length out.old) out.new (counts_for (length out.old) states starts.now) }
 {
@@ -146,7 +145,7 @@ fn counts_into(starts: &[u32], states: u32, out: &mut [u32]) -> Written
     if place < starts.len() {
         return refuse(ORDER, place);
     }
-    Written::Numbers(put_counts(starts, states, out))
+    Ok(put_counts(starts, states, out))
 }
 
 fn limit_of(states: u32) -> u32
@@ -158,7 +157,7 @@ fn limit_of(states: u32) -> u32
     65535
 }
 
-fn counts_with(room: &[u32], states: u32, out: &mut [u32]) -> Written
+fn counts_with(room: &[u32], states: u32, out: &mut [u32]) -> Result<usize, Refusal>
     requires { out.old ≡ zeros (length out.old) }
     ensures { Writes result (length out.old) out.new (counts_with room.now (length out.old) states) }
 {
@@ -169,7 +168,7 @@ fn counts_with(room: &[u32], states: u32, out: &mut [u32]) -> Written
 }
 
 // For each compiled mode how many states it has. What the count of the states refuses with is handed on.
-pub fn mode_state_counts(room: &[u32], out: &mut [u32]) -> Written
+pub fn mode_state_counts(room: &[u32], out: &mut [u32]) -> Result<usize, Refusal>
     ensures { Writes result (length out.old) out.new (mode_state_counts room.now (length out.old)) }
 {
     buffer::clear(out);

@@ -15,8 +15,6 @@ use Rattle.word_reader.specs.declared.Sections.{Sections}
 use Rattle.word_layout.specs.Layout.{Layout, layout_of}
 use Rattle.std.specs.Prelude.{Ok, Err}
 use Rattle.word_layout.proofs.Found.{order, continuations_there}
-use Rattle.buffer.specs.declared.Written.{Written}
-use Rattle.buffer.specs.declared.Written.TheVariants.{Numbers}
 use Rattle.buffer.specs.Written.{refused}
 use Rattle.buffer.specs.Over.{over, lay, zeros, padded}
 use Rattle.buffer.proofs.Overs.{over-front, lay-none, lay-lay, lay-zeros}
@@ -24,6 +22,7 @@ use Rattle.word_layout.proofs.Laws.{kept}
 use Rattle.room_judge.specs.Judge.{words_part, table_in}
 use Rattle.room_judge.proofs.Tables.{table_laid, found_table, unfound_table}
 use Rattle.room_encode.specs.Encode.{encode_of, out_of}
+use Rattle.std.specs.Prelude.{Result}
 
 -- a section was copied over the front of its part
 pub copied_over : (w d : List ℕ) {new : List ℕ} → length w ≤ length d → new ≡ w → new ++ drop (length w) d ≡ over w d
@@ -165,12 +164,12 @@ module _ (d : List ℕ) (k : ℕ) where
       unfolding out_of
       no-room_out e h l z = let i : n < length (words_part d) = omega (arith, count_is d h) in z ∙ (rw ((found_table d h).0, lt-ltb n (length (words_part d)) i))
 
-      pub all_words : k ≡ get_or d 0 0 → table_in d ≡ Ok s → k ≤ n → Numbers k ≡ encode_of d n
+      pub all_words : k ≡ get_or d 0 0 → table_in d ≡ Ok s → k ≤ n → Ok k ≡ encode_of d n
       unfolding encode_of
       all_words e h l =
           let j : k ≡ length (words_part d) = omega (arith, count_is d h) in
           let i : length (words_part d) ≤ n = omega arith in
-          ap Numbers j ∙ (rw ((found_table d h).0, le-ltb n (length (words_part d)) i))
+          ap Ok j ∙ (rw ((found_table d h).0, le-ltb n (length (words_part d)) i))
 
       pub all_out : {out new : List ℕ} → k ≡ get_or d 0 0 → table_in d ≡ Ok s → k ≤ n → out ≡ zeros n → new ≡ lay 0 read out → new ≡ out_of d n
       unfolding out_of
@@ -204,7 +203,7 @@ zeros_again n {out} z = let l : length out ≡ n = ap length z ∙ length-replic
 
 -- an output that was cleared is as long as before
 module _ (d : List ℕ) (k n : ℕ) where
-  pub as_long : {r : Written} → r ≡ encode_of d k → k ≡ n → r ≡ encode_of d n
+  pub as_long : {r : Result ℕ Refusal} → r ≡ encode_of d k → k ≡ n → r ≡ encode_of d n
   as_long h e = h ∙ ap (encode_of d) e
 
   pub as_long_out : {out : List ℕ} → out ≡ out_of d k → k ≡ n → out ≡ out_of d n

@@ -7,7 +7,6 @@ ghost use Rattle.buffer.specs.Over.{over, lay, zeros};
 ghost use Rattle.room_judge.specs.Judge.{table_in};
 ghost use Rattle.room_encode.specs.Encode.{encode_of, out_of};
 
-use buffer::Written;
 use refusal::{HEADER_NUMBERS, NOT_TABLE, ROOM, Refusal, WORD_COUNT};
 use word_reader::Sections;
 
@@ -44,7 +43,7 @@ fn write_sections(words: &[u32], s: Sections, out: &mut [u32])
 }
 
 // Writes the words of a room that is a table into an output that is all zeros.
-fn write_table(room: &[u32], s: Sections, out: &mut [u32]) -> Written
+fn write_table(room: &[u32], s: Sections, out: &mut [u32]) -> Result<usize, Refusal>
     requires found { table_in room.now ≡ Ok s }
     requires cleared { out.old ≡ zeros (length out.old) }
     ensures { (result ≡ encode_of room.now (length out.old))
@@ -52,25 +51,25 @@ fn write_table(room: &[u32], s: Sections, out: &mut [u32]) -> Written
 {
     let words = room[WORD_COUNT] as usize;
     if out.len() < words {
-        return Written::Refused(Refusal {
+        return Err(Refusal {
             number: ROOM,
             item: 0,
             place: 0,
         });
     }
     write_sections(&room[HEADER_NUMBERS..HEADER_NUMBERS + words], s, out);
-    Written::Numbers(words)
+    Ok(words)
 }
 
 // Encodes the table in a room. Refused: every number of the output is 0. Accepted: the table's words, flags 0 or 1, then zeros.
-pub fn encode(room: &[u32], out: &mut [u32]) -> Written
+pub fn encode(room: &[u32], out: &mut [u32]) -> Result<usize, Refusal>
     ensures { (result ≡ encode_of room.now (length out.old))
         × (out.new ≡ out_of room.now (length out.old)) }
 {
     buffer::clear(out);
     match room_judge::table_in(room) {
         Ok(s) => write_table(room, s, out),
-        Err(_) => Written::Refused(Refusal {
+        Err(_) => Err(Refusal {
             number: NOT_TABLE,
             item: 0,
             place: 0,
