@@ -1,5 +1,5 @@
 // The run of a state: where its words stand, and the run that they are. The room may be of any length and hold any numbers.
-#![tactic(auto, using(crate::proofs::Laws::chain), unfolding(crate::specs::StateRun::run_of, crate::specs::StateRun::ascii_run, room_find::specs::Room::follow))]
+#![tactic(auto)]
 
 ghost use Rattle.std.specs.Prelude.{◌≡◌, ◌≤◌, length};
 ghost use Rattle.look_runs.specs.RunPlaces.{run_place};

@@ -1,5 +1,5 @@
 // The scan by a state's run, as the front part of the input itself, and by its length. The room may be of any length and hold any numbers.
-#![tactic(auto, using(crate::proofs::LengthLaws::scanning), unfolding(look_runs::specs::StateRun::run_of, look_runs::specs::StateRun::ascii_run, room_find::specs::Room::follow))]
+#![tactic(auto)]
 
 ghost use Rattle.std.specs.Prelude.{◌≡◌, take, length, ◌≤◌};
 ghost use Rattle.look_runs.specs.StateRun.{ascii_run, skipped_by, judged, run_in, run_of};
