@@ -9,7 +9,7 @@ ghost use Rattle.word_reader.specs.Records.{escape_at, config_at, context_at, co
 
 use refusal::{NONE, Refusal};
 use run_shape::Answered;
-use word_reader::{MAX_TARGET, Record};
+use word_reader::{MAX_TARGET, ROW_WORDS, Record};
 
 // A mode: start state, or NONE.
 pub fn read_mode(words: &[u32], at: usize) -> Result<usize, Refusal>
@@ -45,9 +45,6 @@ pub fn read_state(words: &[u32], at: usize) -> Result<usize, Refusal>
     }
     Ok(at + 4)
 }
-
-// The words of an ASCII row: two symbols each.
-const ROW_WORDS: usize = 64;
 
 // A run: one word, or three.
 pub fn read_run(words: &[u32], at: usize) -> Result<usize, Refusal>
