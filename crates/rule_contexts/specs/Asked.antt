@@ -1,11 +1,6 @@
--- What is asked of a config. Assumes nothing.
-use Rattle.std.specs.Prelude.{ℕ, List, Bool}
-use Rattle.rule_words.specs.Rules.{config_good}
-use Rattle.rule_words.specs.Flags.{config_plain}
-use Rattle.rule_contexts.specs.declared.Asked.{Asked}
-use Rattle.rule_contexts.specs.declared.Asked.TheVariants.{Context, Flags}
+-- What a test that is handed to a walk answers. Assumes nothing.
+use Rattle.std.specs.Prelude.{◌≡◌, ℕ, ◌<◌, ◌^◌, Bool}
 
--- that its context is at most n, or that its flags are plain
-abbrev pub config_passes : Asked → List ℕ → ℕ → Bool
-config_passes (Context n) = config_good n
-config_passes Flags = config_plain
+-- each answer at a place is what `test` says of the place
+abbrev pub Tells : (ℕ → Bool → Type 0) → (ℕ → Bool) → Type 0
+Tells post test = (at : ℕ) (b : Bool) → at < 2 ^ 64 → post at b → b ≡ test at

@@ -1,19 +1,18 @@
 -- The tests of a row's words, of a range and of a row, by the words that were read. Assumes nothing.
 use Prim.Native.Nat.{ℕ, zero, suc, ◌+◌, ◌-◌, ◌/◌, ◌%◌, ◌<◌, ◌≤◌}
-use native.Mathlib.Numerals.{sub-one}
 use native.Mathlib.Omega.{arith}
-use mathlib.Core.Path.{◌≡◌, refl, sym, ◌∙◌}
+use mathlib.Core.Path.{◌≡◌, refl, sym, ap, ◌∙◌}
 use mathlib.Core.List.{List}
 use mathlib.Core.Bool.{Bool, true, false, ◌&&◌, and-true, and-false}
 use lib.Dec.{leb}
-use lib.ListN.{length, get_or}
+use lib.ListN.{length, get_or, take, drop, length-drop}
+use lib.Seq.{length-take-le}
 use borrow.Author.Rules.{rules}
+use Rattle.std.proofs.lemmas.List.{get_or-take, get_or-drop}
 use Rattle.rule_words.specs.Rules.{every_from, walk, sized, each_word, good, none_or, present, both_good, follows, searchable, thirds, wide_good, escape_good}
 use Rattle.rule_words.specs.Rules.{next_from}
-use Rattle.rule_words.proofs.Laws.{past_end, past_all, striding}
-use Rattle.rule_rows.specs.declared.Third.{Third}
-use Rattle.rule_rows.specs.declared.Third.TheVariants.{Target, Continuation}
-use Rattle.rule_rows.specs.Thirds.{third_good, range_good}
+use Rattle.rule_words.proofs.Laws.{past_end, past_all}
+use Rattle.rule_rows.specs.Thirds.{range_good}
 
 -- Words that are judged by the targets in them.
 pub both_tested : (ns x : ℕ) {p q : Bool} → p ≡ good ns (x % 65536) → q ≡ good ns (x / 65536) → p && q ≡ both_good ns x
@@ -48,17 +47,34 @@ module _ (test : ℕ → Bool) (w : List ℕ) where
   each_past (suc zero) at h k = rw (← past_end w at h) (and-true (test 0))
   each_past (suc (suc n)) at h k = rw (← past_end w at h, each_past (suc n) (at + 1) (omega arith) (omega arith)) (same_twice (test 0))
 
-  -- one more is judged; none is left
-  pub judged_one : (all : Bool) (left here : ℕ) {ok every : Bool} → (all && each_word test w left here) ≡ every → 0 < left → ok ≡ test (get_or w here 0)
-      → ((ok && all) && each_word test w (left - 1) (here + 1)) ≡ every
-  unfolding walk every_from
-  judged_one all zero here i h o = absurd (omega arith)
-  judged_one all (suc n) here {ok} i h o = rw (sub-one) (one_asked all ok _ ∙ (rw o i))
+  -- one more is judged; none is left. i of n are behind
+  module _ (all : Bool) (n i : ℕ) {every : Bool} (inv : (all && each_word test w (n - i) i) ≡ every) where
+    pub judged_one : {ok : Bool} → i < n → ok ≡ test (get_or w i 0) → ((ok && all) && each_word test w (n - (i + 1)) (i + 1)) ≡ every
+    unfolding walk every_from
+    judged_one {ok} h o =
+        let e : n - i ≡ suc (n - (i + 1)) = omega arith in
+        one_asked all ok _ ∙ (rw o (rw e at inv))
 
-  pub judged : (all : Bool) (left here : ℕ) {every : Bool} → (all && each_word test w left here) ≡ every → left ≤ 0 → all ≡ every
-  unfolding walk
-  judged all zero here i h = sym (and-true all) ∙ i
-  judged all (suc n) here i h = absurd (omega arith)
+    pub judged : n ≤ i → all ≡ every
+    unfolding walk
+    judged h = let e : n - i ≡ 0 = omega arith in sym (and-true all) ∙ (rw e at inv)
+
+  -- of a slice: the n words at a place
+  each_in : (n at m i : ℕ) → i + m ≤ n → each_word test (take n (drop at w)) m i ≡ each_word test w m (at + i)
+  unfolding walk every_from
+  each_in n at zero i h = refl
+  each_in n at (suc m) i h =
+      let e : get_or (take n (drop at w)) i 0 ≡ get_or w (at + i) 0 = get_or-take n (drop at w) i 0 (omega arith) ∙ get_or-drop at w i 0 in
+      let p : at + i + 1 ≡ at + (i + 1) = omega arith in
+      rw (e, p) (ap (λ b. test (get_or w (at + i) 0) && b) (each_in n at m (i + 1) (omega arith)))
+
+  pub row_slice : (n at : ℕ) {m : ℕ} {p : Bool} → m ≡ n → at + n ≤ length w → p ≡ each_word test (take m (drop at w)) (length (take m (drop at w))) 0
+      → p ≡ each_word test w n at
+  row_slice n at e h k =
+      let d : n ≤ length (drop at w) = rw (length-drop at w) (omega arith) in
+      let l : length (take n (drop at w)) ≡ n = length-take-le n (drop at w) d in
+      let z : at + 0 ≡ at = omega arith in
+      rw z at ((rw (e, l) at k) ∙ each_in n at n 0 (omega arith))
 
   -- a row that ends past the words, or starts there
   pub row_past : (at : ℕ) {r : Bool} → length w ≤ at → r ≡ test 0 → r ≡ each_word test w 64 at
@@ -77,33 +93,28 @@ module _ (w : List ℕ) (at : ℕ) where
   unfolding follows
   follows_tested from d e f = rw (f, d, e)
 
-  pub target_tested : {t : Third} {n x : ℕ} {r : Bool} → t ≡ Target n → r ≡ good n x → x ≡ get_or w (at + 2) 0 → r ≡ third_good t (get_or w (at + 2) 0)
-  target_tested k d e = d ∙ (rw (k, e))
-
-  pub continuation_tested : {t : Third} {n x : ℕ} {r : Bool} → t ≡ Continuation n → r ≡ present n x → x ≡ get_or w (at + 2) 0
-      → r ≡ third_good t (get_or w (at + 2) 0)
-  continuation_tested k d e = d ∙ (rw (k, e))
-
-  pub range_tested : (t : Third) (from : ℕ) {p q : Bool} → p ≡ follows w from at → q ≡ third_good t (get_or w (at + 2) 0) → p && q ≡ range_good t w from at
-  range_tested t from d e = rw (d, e)
-
-pub ruleset testing = (rules, follows_tested, target_tested, continuation_tested, range_tested)
+pub ruleset testing = (rules, follows_tested)
 
 -- One walk over ranges asks both: their order, and their third numbers.
-abbrev pub ranges_good : Third → List ℕ → ℕ → ℕ → ℕ → Bool
-ranges_good t w = walk (range_good t w) (λ from at. next_from w at) (sized 3)
+abbrev pub ranges_good : (ℕ → Bool) → List ℕ → ℕ → ℕ → ℕ → Bool
+ranges_good test w = walk (range_good test w) (λ from at. next_from w at) (sized 3)
 
 shuffled : (a b c d e : Bool) → c ≡ (d && e) → ((a && b) && c) ≡ ((a && d) && (b && e))
 shuffled true true c d e h = h
 shuffled true false c d e h = sym (and-false d)
 shuffled false b c d e h = refl
 
-pub asks_both : (t : Third) (w : List ℕ) (from n at : ℕ) → ranges_good t w from n at ≡ (searchable w from n at && thirds (third_good t) w n at)
+pub asks_both : (test : ℕ → Bool) (w : List ℕ) (from n at : ℕ) → ranges_good test w from n at ≡ (searchable w from n at && thirds test w n at)
 unfolding walk every_from
-asks_both t w from zero at = refl
-asks_both t w from (suc n) at = shuffled (follows w from at) (third_good t (get_or w (at + 2) 0)) _ _ _ (asks_both t w (next_from w at) n (at + 3))
+asks_both test w from zero at = refl
+asks_both test w from (suc n) at = shuffled (follows w from at) (test (get_or w (at + 2) 0)) _ _ _ (asks_both test w (next_from w at) n (at + 3))
 
-pub ruleset ranging = (striding, asks_both)
+pub asks_first : (test : ℕ → Bool) (w : List ℕ) (n at : ℕ) → ranges_good test w 0 (n - 0) at ≡ (searchable w 0 n at && thirds test w n at)
+asks_first test w n at = let e : n - 0 ≡ n = omega arith in rw e (asks_both test w 0 n at)
+
+pub range_tested : (test : ℕ → Bool) (w : List ℕ) (from at : ℕ) {x : ℕ} {p q : Bool} → p ≡ follows w from at → q ≡ test x → x ≡ get_or w (at + 2) 0
+    → p && q ≡ range_good test w from at
+range_tested test w from at d e f = rw (d, e, f)
 
 -- A row past the end lists nothing.
 module _ (w : List ℕ) (at : ℕ) where

@@ -1,14 +1,11 @@
--- What a range may be, by its third number. Assumes nothing.
-use Rattle.std.specs.Prelude.{ℕ, ◌+◌, List, Bool, ◌&&◌, get_or}
-use Rattle.rule_words.specs.Rules.{good, present, follows}
-use Rattle.rule_rows.specs.declared.Third.{Third}
-use Rattle.rule_rows.specs.declared.Third.TheVariants.{Target, Continuation}
+-- What a test of a range's third number answers, and a range that passes it. Assumes nothing.
+use Rattle.std.specs.Prelude.{◌≡◌, ℕ, ◌+◌, ◌<◌, ◌^◌, List, Bool, ◌&&◌, get_or}
+use Rattle.rule_words.specs.Rules.{follows}
 
--- a good target, by the count of states, or one of so many continuations
-abbrev pub third_good : Third → ℕ → Bool
-third_good (Target n) = good n
-third_good (Continuation n) = present n
+-- each answer on a word is what `test` says of it
+abbrev pub Tells : (ℕ → Bool → Type 0) → (ℕ → Bool) → Type 0
+Tells post test = (x : ℕ) (b : Bool) → x < 2 ^ 32 → post x b → b ≡ test x
 
--- a range that starts at `from` or later, in order, with a third number that is good
-abbrev pub range_good : Third → List ℕ → ℕ → ℕ → Bool
-range_good t w from at = follows w from at && third_good t (get_or w (at + 2) 0)
+-- a range that starts at `from` or later, in order, with a third number that passes
+abbrev pub range_good : (ℕ → Bool) → List ℕ → ℕ → ℕ → Bool
+range_good test w from at = follows w from at && test (get_or w (at + 2) 0)

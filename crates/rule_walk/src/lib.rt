@@ -83,24 +83,17 @@ fn passes(question: Question, words: &[u32], number: u32, at: usize) -> bool
 fn count_passing(question: Question, words: &[u32], count: u32, at: usize) -> u32
     ensures { result ≡ passing (passes question words.now) (asked_at question words.now) 0 count at }
 {
-    let mut number: u32 = 0;
     let mut here = at;
-    while number < count {
-        match read_asked(question, words, here) {
-            Ok(p) => {
-                if passes(question, words, number, here) {
-                    here = p;
-                    number += 1;
-                } else {
-                    return number;
-                }
-            }
-            Err(_) => {
-                return number;
-            }
+    for number in 0..count {
+        let Ok(next) = read_asked(question, words, here) else {
+            return number;
+        };
+        if !passes(question, words, number, here) {
+            return number;
         }
+        here = next;
     }
-    number
+    count
 }
 
 // How many records of the section whose count stands at `at` pass before the first that does not: all of them, where each does.

@@ -1,12 +1,10 @@
--- The laws of the walks over records and words, by the tests that the code makes. `ok` is what a test answered, `got` what a reader
--- did, and `all` what the whole walk gives: what is left, walked from here, always gives the same. Assumes nothing.
+-- The laws of the walks over records and words, by the tests that the code makes. `ok` is what a test answered,
+-- and `all` what the whole walk gives: what is left, walked from here, always gives the same. Assumes nothing.
 use Prim.Native.Nat.{ℕ, zero, suc, ◌+◌, ◌-◌, ◌<◌, ◌≤◌}
-use native.Mathlib.Nat.{not-suc-le-zero}
-use native.Mathlib.Numerals.{sub-one}
 use native.Mathlib.Omega.{arith}
 use mathlib.Core.Path.{◌≡◌, refl, sym, ap, ◌∙◌}
 use mathlib.Core.List.{List}
-use mathlib.Core.Bool.{Bool, true, false, ◌&&◌}
+use mathlib.Core.Bool.{Bool, true, false, ◌&&◌, and-false}
 use lib.Dec.{eqb}
 use lib.ListN.{length, get_or, get_or-eq_default}
 use borrow.Author.Rules.{rules}
@@ -34,39 +32,55 @@ pub ruleset reading = (rules, past_end, past_skip, past_all)
 abbrev pub rest : (ℕ → Bool) → (ℕ → Place) → ℕ → ℕ → Bool
 rest test f = walk (λ x p. test p) (λ x p. x) f 0
 
--- The law of every walk over records of a fixed size. `next` is what a record hands on.
-module _ (test : ℕ → ℕ → Bool) (hand : ℕ → ℕ → ℕ) (size : ℕ) where
-  abbrev all_from : ℕ → ℕ → ℕ → Bool
-  all_from = walk test hand (sized size)
+-- The law of every walk over n records of a fixed size, of which i are behind. `next` is what a record hands on.
+module _ (test : ℕ → ℕ → Bool) (hand : ℕ → ℕ → ℕ) (size x n i here : ℕ) {all : Bool} (inv : walk test hand (sized size) x (n - i) here ≡ all) where
+  abbrev one_less : i < n → n - i ≡ suc (n - (i + 1))
+  one_less h = omega arith
 
   -- a record passed: go on behind it
-  pub passed : (x left here : ℕ) {next : ℕ} {ok all : Bool} → all_from x left here ≡ all → 0 < left → ok ≡ test x here → ok ≡ true → next ≡ hand x here
-      → all_from next (left - 1) (here + size) ≡ all
+  pub passed : {next : ℕ} {ok : Bool} → i < n → ok ≡ test x here → ok ≡ true → next ≡ hand x here → walk test hand (sized size) next (n - (i + 1)) (here + size) ≡ all
   unfolding walk every_from
-  passed x zero here i h o y k = absurd (not-suc-le-zero h)
-  passed x (suc n) here i h o y k = rw (sub-one, k) (rw (← o, y) at i)
+  passed h o y k = rw k (rw (one_less h, ← o, y) at inv)
 
   -- it failed: so do all
-  pub failed : (x left here : ℕ) {ok all : Bool} → all_from x left here ≡ all → 0 < left → ok ≡ test x here → ok ≡ false → false ≡ all
+  pub failed : {ok : Bool} → i < n → ok ≡ test x here → ok ≡ false → false ≡ all
   unfolding walk
-  failed x zero here i h o y = absurd (not-suc-le-zero h)
-  failed x (suc n) here i h o y = rw (← o, y) at i
+  failed h o y = rw (one_less h, ← o, y) at inv
 
   -- none is left
-  pub judged_all : (x left here : ℕ) {all : Bool} → all_from x left here ≡ all → left ≤ 0 → true ≡ all
+  pub judged_all : n ≤ i → true ≡ all
   unfolding walk
-  judged_all x zero here i h = i
-  judged_all x (suc n) here i h = absurd (not-suc-le-zero h)
+  judged_all h = let e : n - i ≡ 0 = omega arith in rw e at inv
 
-  -- places that are counted from another
-  pub passed_from : (x left at skip : ℕ) {next : ℕ} {ok all : Bool} → all_from x left (at + skip) ≡ all → 0 < left → ok ≡ test x (at + skip) → ok ≡ true
-      → next ≡ hand x (at + skip) → all_from next (left - 1) (at + (skip + size)) ≡ all
-  passed_from x left at skip i h o y k = let p : at + (skip + size) ≡ at + skip + size = omega arith in rw p (passed x left (at + skip) i h o y k)
+pub ruleset striding = (rules, failed, judged_all)
 
-  pub starts_from_lem : (x left at : ℕ) → all_from x left (at + 0) ≡ all_from x left at
-  starts_from_lem x left at = let p : at + 0 ≡ at = omega arith in rw p
+pub rest_first : (read : List ℕ → ℕ → Place) (test : ℕ → Bool) (w : List ℕ) (at : ℕ) → rest test (read w) (get_or w at 0 - 0) (at + 1) ≡ every_in read test w at
+unfolding every_in every
+rest_first read test w at = let e : get_or w at 0 - 0 ≡ get_or w at 0 = omega arith in rw e
 
-pub ruleset striding = (rules, passed, passed_from, starts_from_lem, failed, judged_all)
+-- The law of every walk over n records that a reader finds, of which i are behind.
+module _ (test : ℕ → Bool) (f : ℕ → Place) (n i here : ℕ) {all : Bool} (inv : rest test f (n - i) here ≡ all) where
+  abbrev one_less-read : i < n → n - i ≡ suc (n - (i + 1))
+  one_less-read h = omega arith
+
+  -- a record was read, and passed: go on behind it
+  pub read_on : {p : ℕ} → i < n → Ok p ≡ f here → true ≡ test here → rest test f (n - (i + 1)) p ≡ all
+  unfolding walk every_from
+  read_on h g o = rw (one_less-read h, ← g, ← o) at inv
+
+  -- it failed, or none is there
+  pub read_failed : i < n → false ≡ test here → false ≡ all
+  unfolding walk every_from
+  read_failed h o = rw (one_less-read h, ← o) at inv
+
+  pub read_lost : {r : Refusal} → i < n → Err r ≡ f here → false ≡ all
+  unfolding walk every_from
+  read_lost h g = sym (and-false (test here)) ∙ (rw (one_less-read h, ← g) at inv)
+
+  -- none is left
+  pub read_all : n ≤ i → true ≡ all
+  unfolding walk
+  read_all h = let e : n - i ≡ 0 = omega arith in rw e at inv
 
 -- The law of every loop that counts the records that pass. `got` is what the record's reader answered, `all` what the whole loop does.
 module _ (test : ℕ → ℕ → Bool) (f : ℕ → Place) where
@@ -78,24 +92,23 @@ module _ (test : ℕ → ℕ → Bool) (f : ℕ → Place) where
     one_more_lem h = omega arith
 
     -- a record passed: go on behind it
-    pub one_passed : {p : ℕ} {got : Place} {ok : Bool} → i < n → got ≡ f here → got ≡ Ok p → ok ≡ test i here → ok ≡ true
-        → passing test f (i + 1) (n - (i + 1)) p ≡ all
+    pub one_passed : {p : ℕ} → i < n → Ok p ≡ f here → true ≡ test i here → passing test f (i + 1) (n - (i + 1)) p ≡ all
     unfolding passing read_or
-    one_passed h g e o y = rw (one_more_lem h, ← g, e, ← o, y) at inv
+    one_passed h g o = rw (one_more_lem h, ← g, ← o) at inv
 
     -- it failed, or none is there
-    pub one_failed : {p : ℕ} {got : Place} {ok : Bool} → i < n → got ≡ f here → got ≡ Ok p → ok ≡ test i here → ok ≡ false → i ≡ all
+    pub one_failed : {p : ℕ} → i < n → Ok p ≡ f here → false ≡ test i here → i ≡ all
     unfolding passing read_or
-    one_failed h g e o y = rw (one_more_lem h, ← g, e, ← o, y) at inv
+    one_failed h g o = rw (one_more_lem h, ← g, ← o) at inv
 
-    pub one_lost : {r : Refusal} {got : Place} → i < n → got ≡ f here → got ≡ Err r → i ≡ all
+    pub one_lost : {r : Refusal} → i < n → Err r ≡ f here → i ≡ all
     unfolding passing read_or
-    one_lost h g e = rw (one_more_lem h, ← g, e) at inv
+    one_lost h g = rw (one_more_lem h, ← g) at inv
 
     -- none is left
-    pub all_passed : n ≤ i → i ≡ all
+    pub all_passed : n ≤ i → i ≤ n → n ≡ all
     unfolding passing
-    all_passed h = let e : n - i ≡ 0 = omega arith in rw e at inv
+    all_passed h k = let e : n - i ≡ 0 = omega arith in let f : n ≡ i = omega arith in f ∙ (rw e at inv)
 
 pub ruleset counting = (rules, from_first, one_passed, one_failed, one_lost, all_passed)
 

@@ -12,6 +12,9 @@ use refusal::{FIELD, Refusal, SHORT};
 // The greatest target that a state, a mode or a range may have.
 pub const MAX_TARGET: u32 = 65535;
 
+// The words of an ASCII row: two targets each.
+pub const ROW_WORDS: usize = 64;
+
 // Where the sections of a table start: the places of their counts among its words.
 #[derive(Clone, Copy)]
 pub struct Sections {

@@ -8,7 +8,7 @@ ghost use Rattle.word_reader.specs.Records.{mode_at, state_at, run_at, ascii_at,
 ghost use Rattle.word_reader.specs.Records.{escape_at, config_at, context_at, continuation_at};
 
 use refusal::{NONE, Refusal};
-use word_reader::{MAX_TARGET, Record};
+use word_reader::{MAX_TARGET, ROW_WORDS, Record};
 
 // A mode: start state, or NONE.
 pub fn read_mode(words: &[u32], at: usize) -> Result<usize, Refusal>
@@ -44,9 +44,6 @@ pub fn read_state(words: &[u32], at: usize) -> Result<usize, Refusal>
     }
     Ok(at + 4)
 }
-
-// The words of an ASCII row: two symbols each.
-const ROW_WORDS: usize = 64;
 
 // A run: one word, or three.
 pub fn read_run(words: &[u32], at: usize) -> Result<usize, Refusal>

@@ -1,15 +1,6 @@
--- The tests are the definition's.
+-- The test is made of the words that were read.
 use Rattle.rule_rows.proofs.Tests.{testing}
 use Rattle.rule_rows.proofs.follows.Goals as goal
-
-pub word_at-low-requires : goal.word_at-low-requires
-word_at-low-requires c = search testing
-
-pub word_past-high-requires : goal.word_past-high-requires
-word_past-high-requires c = search testing
-
-pub wide-requires : goal.wide-requires
-wide-requires c = search testing
 
 pub returns : goal.returns
 returns c = search testing

@@ -1,21 +1,11 @@
--- A row past the end lists nothing; else its parts are the definition's.
-use Rattle.rule_rows.proofs.Tests.{ending}
+-- A row past the end lists nothing; else its ranges are walked.
+use borrow.Author.Rules.{rules}
+use Rattle.rule_words.specs.Rules.{good}
+use Rattle.rule_rows.proofs.Tests.{ending, wide_tested}
 use Rattle.rule_rows.proofs.wide_row_is_searchable.Goals as goal
 
 pub returns-then-words-at : goal.returns-then-words-at
 returns-then-words-at c = search ending
 
-pub offset_bounds-words-at : goal.offset_bounds-words-at
-offset_bounds-words-at c = search ending
-
-pub bounds-words-at : goal.bounds-words-at
-bounds-words-at c = search ending
-
-pub overflow_add-at : goal.overflow_add-at
-overflow_add-at c = search ending
-
-pub ranges_are_good-requires : goal.ranges_are_good-requires
-ranges_are_good-requires c = search ending
-
 pub returns : goal.returns
-returns c = search ending
+returns c = wide_tested _ _ _ (c.ranges_are_good.ensures (good c.args.states) (λ x b h p. search rules))

@@ -1,35 +1,15 @@
-use Rattle.rule_words.proofs.Laws.{counting}
+-- Each answer is the case of the walk that the tests on the way say.
+use Rattle.rule_words.proofs.Laws.{one_passed, one_failed, one_lost, all_passed}
 use Rattle.rule_walk.proofs.count_passing.Goals as goal
 
-pub loop-number-init : goal.loop-number-init
-loop-number-init c = search counting
+pub returns-in_default : goal.returns-in_default
+returns-in_default c = one_lost _ _ _ _ _ c.loop-number.invariant c.loop-number-test.true c.in_default.ensures
 
-pub read_asked-requires : goal.read_asked-requires
-read_asked-requires c = search counting
-
-pub enum_known-p : goal.enum_known-p
-enum_known-p c = search counting
-
-pub passes-requires : goal.passes-requires
-passes-requires c = search counting
-
-pub overflow_add-number : goal.overflow_add-number
-overflow_add-number c = search counting
-
-pub loop-number-smaller : goal.loop-number-smaller
-loop-number-smaller c = search counting
+pub returns-then-not-passes : goal.returns-then-not-passes
+returns-then-not-passes c = one_failed _ _ _ _ _ c.loop-number.invariant c.loop-number-test.true c.in-Ok.ensures c.if-not-passes.ensures
 
 pub loop-number-preserved : goal.loop-number-preserved
-loop-number-preserved c = search counting
-
-pub returns-else-passes : goal.returns-else-passes
-returns-else-passes c = search counting
-
-pub enum_told-1 : goal.enum_told-1
-enum_told-1 c = search counting
-
-pub returns-in-Err : goal.returns-in-Err
-returns-in-Err c = search counting
+loop-number-preserved c = one_passed _ _ _ _ _ c.loop-number.invariant c.loop-number-test.true c.in-Ok.ensures c.if-not-passes.ensures
 
 pub returns : goal.returns
-returns c = search counting
+returns c = all_passed _ _ _ _ _ c.loop-number.invariant c.loop-number-test.false c.loop-number.auto.number-end

@@ -1,4 +1,4 @@
--- By the law of every loop that counts the records that pass. The measure is how many are left.
+-- By the law of every loop that counts the records that pass.
 use Prim.Native.Nat.{◌-◌}
 use mathlib.Core.Path.{◌≡◌}
 use Rattle.rule_words.specs.Rules.{passing}
@@ -7,6 +7,3 @@ use Rattle.rule_walk.proofs.count_passing.Given as goal
 
 abbrev pub invariant-loop-number : goal.invariant-loop-number
 invariant-loop-number l = passing (passes l.question l.words) (asked_at l.question l.words) l.number (l.count - l.number) l.here ≡ passing (passes l.question l.words) (asked_at l.question l.words) 0 l.count l.at
-
-abbrev pub decreases-loop-number : goal.decreases-loop-number
-decreases-loop-number l = l.count - l.number
