@@ -3,7 +3,20 @@
 #![tactic(auto)]
 
 ghost use Rattle.std.specs.Prelude.{◌≡◌};
+ghost use Rattle.run_shape.specs.Words.{read_alone};
+ghost use Rattle.run_shape.specs.Scan.{scan_by};
 ghost use Rattle.c_scan.specs.Answers.{scan_call, scan_in_c};
+
+use refusal::{FIELD, Refusal};
+use run_ranges::PackedRanges;
+use run_shape::{AsciiRun, AsciiRunScan};
+
+// What is said of words that are not those of one run.
+const NO_RUN: Refusal = Refusal {
+    number: FIELD,
+    item: 0,
+    place: 0,
+};
 
 // How far a run went, and whether an exit stopped it; `ran` is 0 where there is no run. The flags are whole words, 1 or 0, so that
 // a caller that loads a word finds one stored.
@@ -18,12 +31,34 @@ pub struct CScan {
     pub found_exit: u32,
 }
 
+// The scan by the run whose words these are. They are read as `run_words::read_alone` reads them, but the run is not handed on from call
+// to call: through memory that takes longer than many scans.
+#[tactic(auto, using(run_shape::proofs::Reading::reading))]
+fn scan_alone(words: &[u32], input: &[u8]) -> Result<Option<AsciiRunScan>, Refusal>
+    ensures { result ≡ scan_by (read_alone words.now) input.now }
+{
+    match words {
+        [word] => run_words::short_answer(*word, 0).map(|run| run_scan::scan_length(run, input)),
+        [kind, first, second] => {
+            let packed = PackedRanges {
+                first: *first,
+                second: *second,
+            };
+            match run_ranges::from_run(*kind, packed) {
+                Some(ranges) => Ok(run_scan::scan_length(AsciiRun::Ranges(ranges), input)),
+                None => Err(NO_RUN),
+            }
+        }
+        _ => Err(NO_RUN),
+    }
+}
+
 // The scan of the input by the run whose words these are.
 #[unsafe(no_mangle)]
 pub extern "C" fn lexer_dfa_scan(words: &[u32], input: &[u8]) -> CScan
     ensures { result ≡ scan_in_c (scan_call words.now input.now) }
 {
-    match run_words::read_alone(words).map(|run| run_scan::scan_length(run, input)) {
+    match scan_alone(words, input) {
         Ok(None) => CScan {
             number: 0,
             item: 0,
