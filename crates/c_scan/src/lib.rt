@@ -3,8 +3,8 @@
 #![tactic(auto)]
 
 ghost use Rattle.std.specs.Prelude.{◌≡◌};
-ghost use Rattle.run_shape.specs.Words.{read_alone};
-ghost use Rattle.run_shape.specs.Scan.{scan_by};
+ghost use Rattle.refusal.specs.Said.{no_by};
+ghost use Rattle.run_shape.specs.Scan.{said};
 ghost use Rattle.c_scan.specs.Answers.{scan_call, scan_in_c};
 
 use refusal::{FIELD, Refusal};
@@ -31,35 +31,11 @@ pub struct CScan {
     pub found_exit: u32,
 }
 
-// The scan by the run whose words these are. They are read as `run_words::read_alone` reads them, but the run is not handed on from call
-// to call: through memory that takes longer than many scans.
-#[tactic(auto, using(run_shape::proofs::Reading::reading))]
-fn scan_alone(words: &[u32], input: &[u8]) -> Result<Option<AsciiRunScan>, Refusal>
-    ensures { result ≡ scan_by (read_alone words.now) input.now }
+fn said_in_c(scanned: Option<AsciiRunScan>) -> CScan
+    ensures { result ≡ scan_in_c (said scanned) }
 {
-    match words {
-        [word] => run_words::short_answer(*word, 0).map(|run| run_scan::scan_length(run, input)),
-        [kind, first, second] => {
-            let packed = PackedRanges {
-                first: *first,
-                second: *second,
-            };
-            match run_ranges::from_run(*kind, packed) {
-                Some(ranges) => Ok(run_scan::scan_length(AsciiRun::Ranges(ranges), input)),
-                None => Err(NO_RUN),
-            }
-        }
-        _ => Err(NO_RUN),
-    }
-}
-
-// The scan of the input by the run whose words these are.
-#[unsafe(no_mangle)]
-pub extern "C" fn lexer_dfa_scan(words: &[u32], input: &[u8]) -> CScan
-    ensures { result ≡ scan_in_c (scan_call words.now input.now) }
-{
-    match scan_alone(words, input) {
-        Ok(None) => CScan {
+    match scanned {
+        None => CScan {
             number: 0,
             item: 0,
             place: 0,
@@ -67,7 +43,7 @@ pub extern "C" fn lexer_dfa_scan(words: &[u32], input: &[u8]) -> CScan
             bytes: 0,
             found_exit: 0,
         },
-        Ok(Some(scan)) => CScan {
+        Some(scan) => CScan {
             number: 0,
             item: 0,
             place: 0,
@@ -75,13 +51,44 @@ pub extern "C" fn lexer_dfa_scan(words: &[u32], input: &[u8]) -> CScan
             bytes: scan.bytes,
             found_exit: u32::from(scan.found_exit),
         },
-        Err(refusal) => CScan {
-            number: refusal.number,
-            item: refusal.item,
-            place: refusal.place,
-            ran: 0,
-            bytes: 0,
-            found_exit: 0,
+    }
+}
+
+fn refused_in_c(refusal: Refusal) -> CScan
+    ensures { result ≡ scan_in_c (no_by refusal) }
+{
+    CScan {
+        number: refusal.number,
+        item: refusal.item,
+        place: refusal.place,
+        ran: 0,
+        bytes: 0,
+        found_exit: 0,
+    }
+}
+
+// The scan of the input by the run whose words these are. They are read as `run_words::read_alone` reads them, but the run is not handed
+// on from call to call: through memory that takes longer than many scans.
+#[tactic(auto, using(run_shape::proofs::Reading::reading))]
+#[unsafe(no_mangle)]
+pub extern "C" fn lexer_dfa_scan(words: &[u32], input: &[u8]) -> CScan
+    ensures { result ≡ scan_in_c (scan_call words.now input.now) }
+{
+    match words {
+        [word] => match run_words::short_answer(*word, 0) {
+            Ok(run) => said_in_c(run_scan::scan_length(run, input)),
+            Err(refusal) => refused_in_c(refusal),
         },
+        [kind, first, second] => {
+            let packed = PackedRanges {
+                first: *first,
+                second: *second,
+            };
+            match run_ranges::from_run(*kind, packed) {
+                Some(ranges) => said_in_c(run_scan::scan_length(AsciiRun::Ranges(ranges), input)),
+                None => refused_in_c(NO_RUN),
+            }
+        }
+        _ => refused_in_c(NO_RUN),
     }
 }

@@ -127,6 +127,7 @@ pub fn scan_scalar(ranges: AsciiRanges, input: &[u8]) -> usize
 }
 
 // How many bytes a run skips; none skips nothing.
+#[inline(always)]
 #[tactic(auto, using(crate::proofs::Scans::skipping))]
 fn skip(run: AsciiRun, input: &[u8]) -> usize
     ensures { result ≡ skipped (shape run) input.now }
@@ -153,7 +154,9 @@ pub fn scan(run: AsciiRun, input: &[u8]) -> &[u8]
     &input[..bytes]
 }
 
-// The length of the skipped run, and whether an exit was found; or that there is no run.
+// The length of the skipped run, and whether an exit was found; or that there is no run. It is made part of each caller, which knows
+// what kind of run it has.
+#[inline(always)]
 #[tactic(auto, unfolding(run_shape::specs::Scan::scan_of))]
 pub fn scan_length(run: AsciiRun, input: &[u8]) -> Option<AsciiRunScan>
     ensures { result ≡ scan_of (shape run) input.now }
