@@ -3,7 +3,20 @@
 #![tactic(auto)]
 
 ghost use Rattle.std.specs.Prelude.{◌≡◌};
+ghost use Rattle.refusal.specs.Said.{no_by};
+ghost use Rattle.run_shape.specs.Scan.{said};
 ghost use Rattle.c_scan.specs.Answers.{scan_call, scan_in_c};
+
+use refusal::{FIELD, Refusal};
+use run_ranges::PackedRanges;
+use run_shape::{AsciiRun, AsciiRunScan};
+
+// What is said of words that are not those of one run.
+const NO_RUN: Refusal = Refusal {
+    number: FIELD,
+    item: 0,
+    place: 0,
+};
 
 // How far a run went, and whether an exit stopped it; `ran` is 0 where there is no run. The flags are whole words, 1 or 0, so that
 // a caller that loads a word finds one stored.
@@ -18,13 +31,11 @@ pub struct CScan {
     pub found_exit: u32,
 }
 
-// The scan of the input by the run whose words these are.
-#[unsafe(no_mangle)]
-pub extern "C" fn lexer_dfa_scan(words: &[u32], input: &[u8]) -> CScan
-    ensures { result ≡ scan_in_c (scan_call words.now input.now) }
+fn said_in_c(scanned: Option<AsciiRunScan>) -> CScan
+    ensures { result ≡ scan_in_c (said scanned) }
 {
-    match run_words::read_alone(words).map(|run| run_scan::scan_length(run, input)) {
-        Ok(None) => CScan {
+    match scanned {
+        None => CScan {
             number: 0,
             item: 0,
             place: 0,
@@ -32,7 +43,7 @@ pub extern "C" fn lexer_dfa_scan(words: &[u32], input: &[u8]) -> CScan
             bytes: 0,
             found_exit: 0,
         },
-        Ok(Some(scan)) => CScan {
+        Some(scan) => CScan {
             number: 0,
             item: 0,
             place: 0,
@@ -40,13 +51,44 @@ pub extern "C" fn lexer_dfa_scan(words: &[u32], input: &[u8]) -> CScan
             bytes: scan.bytes,
             found_exit: u32::from(scan.found_exit),
         },
-        Err(refusal) => CScan {
-            number: refusal.number,
-            item: refusal.item,
-            place: refusal.place,
-            ran: 0,
-            bytes: 0,
-            found_exit: 0,
+    }
+}
+
+fn refused_in_c(refusal: Refusal) -> CScan
+    ensures { result ≡ scan_in_c (no_by refusal) }
+{
+    CScan {
+        number: refusal.number,
+        item: refusal.item,
+        place: refusal.place,
+        ran: 0,
+        bytes: 0,
+        found_exit: 0,
+    }
+}
+
+// The scan of the input by the run whose words these are. They are read as `run_words::read_alone` reads them, but the run is not handed
+// on from call to call: through memory that takes longer than many scans.
+#[tactic(auto, using(run_shape::proofs::Reading::reading))]
+#[unsafe(no_mangle)]
+pub extern "C" fn lexer_dfa_scan(words: &[u32], input: &[u8]) -> CScan
+    ensures { result ≡ scan_in_c (scan_call words.now input.now) }
+{
+    match words {
+        [word] => match run_words::short_answer(*word, 0) {
+            Ok(run) => said_in_c(run_scan::scan_length(run, input)),
+            Err(refusal) => refused_in_c(refusal),
         },
+        [kind, first, second] => {
+            let packed = PackedRanges {
+                first: *first,
+                second: *second,
+            };
+            match run_ranges::from_run(*kind, packed) {
+                Some(ranges) => said_in_c(run_scan::scan_length(AsciiRun::Ranges(ranges), input)),
+                None => refused_in_c(NO_RUN),
+            }
+        }
+        _ => refused_in_c(NO_RUN),
     }
 }

@@ -4,42 +4,22 @@ use native.Mathlib.Numerals.{add-one}
 use native.Mathlib.Omega.{arith}
 use mathlib.Core.Path.{◌≡◌, refl, sym, ap, ◌∙◌}
 use mathlib.Core.List.{List, ◌++◌, append_assoc}
-use mathlib.Core.Bool.{Bool, true, false, ◌&&◌, ◌||◌}
-use lib.Dec.{ltb, eqb}
+use mathlib.Core.Bool.{Bool, true, false}
+use lib.Dec.{ltb}
 use lib.ListN.{length, get_or, take, drop, set, replicate, length-set, take-append-drop}
 use lib.Seq.{take-suc-set, drop-set-lt, drop-drop}
 use borrow.Author.Rules.{rules}
-use borrow.Author.Tests.{le-leb, lt-leb, eq-eqb, lt-ltb, le-ltb, ltb-true, ltb-false}
+use borrow.Author.Tests.{eq-eqb, ltb-true, ltb-false}
 use Rattle.refusal.specs.Lists.{pick}
-use Rattle.run_shape.specs.declared.RunWords.{RunWords}
 use Rattle.std.specs.Prelude.{Ok}
 use Rattle.run_shape.specs.Shape.{held, Got}
 use Rattle.run_shape.specs.Classify.{classification, classified}
 use Rattle.rule_words.proofs.Laws.{past_end}
-use Rattle.rule_words.specs.Rules.{targets, row_of, run_good, row_number, stands, classified_words}
+use Rattle.rule_words.specs.Rules.{targets, row_of}
 
 -- How many words of a row are there.
 abbrev pub there : List ℕ → ℕ → ℕ
 there w at = pick (ltb (length w - at) 64) (length w - at) 64
-
-module _ (w : List ℕ) (a start : ℕ) where
-  pub none-there : length w ≤ a → 0 ≡ there w (a + start)
-  none-there h = let e : length w - (a + start) ≡ 0 = omega arith in rw e
-
-  pub past_there : a < length w → length w - a ≤ start → 0 ≡ there w (a + start)
-  past_there g h = let e : length w - (a + start) ≡ 0 = omega arith in rw e
-
-  pub some-there : a < length w → start < length w - a → length w - a - start < 64 → length w - a - start ≡ there w (a + start)
-  some-there g h k =
-      let e : length w - (a + start) ≡ length w - a - start = omega arith in
-      rw (e, lt-ltb (length w - a - start) 64 k)
-
-  pub all_there : a < length w → start < length w - a → 64 ≤ length w - a - start → 64 ≡ there w (a + start)
-  all_there g h k =
-      let e : length w - (a + start) ≡ length w - a - start = omega arith in
-      rw (e, le-ltb (length w - a - start) 64 k)
-
-pub ruleset counting = (rules, none-there, past_there, some-there, all_there)
 
 -- The loop that unpacks a row. Its invariant: the targets of the words passed, and behind them those of the words left, are all; what is not
 -- unpacked is 0.
@@ -138,24 +118,3 @@ targets_long w (suc n) at = omega (arith, targets_long w n (at + 1))
 pub is_run : (w : List ℕ) (a k state : ℕ) {row : List ℕ} {q : Got} → row ≡ row_of w a k → q ≡ classified state row → q ≡ Ok (held (classification state (row_of w a k)))
 unfolding classified
 is_run w a k state e g = rw (e, eq-eqb (length (row_of w a k)) 128 (targets_long w 64 (a + (1 + 64 * k)))) at g
-
--- The words of a run stand at a place: the tests are the definition's.
-pub stands_tested : (w : List ℕ) (at : ℕ) (r : RunWords) {x y z : ℕ} → x ≡ get_or w at 0 → y ≡ get_or w (at + 1) 0 → z ≡ get_or w (at + 2) 0
-    → eqb x r.first && (ltb r.length 3 || (eqb y r.second && eqb z r.third)) ≡ stands w at r
-unfolding stands
-stands_tested w at r d e f = rw (d, e, f)
-
-pub ruleset testing = (rules, stands_tested)
-
--- The run of a state.
-module _ (w : List ℕ) (s a at : ℕ) where
-  pub run_judged : {state k : ℕ} {x : RunWords} {r : Bool} → state ≤ 65535 → k ≡ row_number w s state → x ≡ classified_words w a k state → r ≡ stands w at x
-      → r ≡ run_good w s a state at
-  unfolding run_good
-  run_judged {state} h d e f = f ∙ (rw (le-leb state 65535 h, e, d))
-
-  pub no_state : {state : ℕ} → 65535 < state → false ≡ run_good w s a state at
-  unfolding run_good
-  no_state {state} h = rw (lt-leb state 65535 h)
-
-pub ruleset standing = (rules, run_judged, no_state)

@@ -20,10 +20,7 @@ fn words_there(words: &[u32], at: usize, start: usize) -> usize
     if behind <= start {
         return 0;
     }
-    if behind - start < 64 {
-        return behind - start;
-    }
-    64
+    (behind - start).min(64)
 }
 
 fn high_half(word: u32) -> u16
@@ -39,12 +36,10 @@ fn row_of(words: &[u32], ascii_rows: usize, index: u32) -> [u16; 128]
     let start = 1 + 64 * index as usize;
     let there = words_there(words, ascii_rows, start);
     let mut row: [u16; 128] = [0; 128];
-    let mut i = 0;
-    while i < there {
+    for i in 0..there {
         let word = words[ascii_rows + (start + i)];
         row[2 * i] = (word % 65536) as u16;
         row[2 * i + 1] = high_half(word);
-        i += 1;
     }
     row
 }
@@ -58,6 +53,7 @@ fn classified_words(words: &[u32], ascii_rows: usize, index: u32, state: u16) ->
 }
 
 // The words of a run, one or three, stand at a place.
+#[tactic(auto, unfolding(rule_words::specs::Rules::stands))]
 fn stands(words: &[u32], at: usize, run: RunWords) -> bool
     ensures { result ≡ stands words.now at run }
 {
@@ -75,6 +71,7 @@ fn row_number(words: &[u32], states: usize, state: u32) -> u32
 }
 
 // Rule 4: the run at a place is that of a state; a state's number has 16 bits.
+#[tactic(auto, unfolding(rule_words::specs::Rules::run_good))]
 pub fn run_is_classified(
     words: &[u32],
     states: usize,

@@ -17,14 +17,12 @@ use run_shape::AsciiRun;
 pub fn next_exit(row: &[u16], state: u16, from: usize) -> usize
     ensures { result ≡ from + before (exits_at state) (drop from row.now) }
 {
-    let mut symbol = from;
-    while symbol < row.len() {
+    for symbol in from..row.len() {
         if row[symbol] != state {
             return symbol;
         }
-        symbol += 1;
     }
-    symbol
+    row.len().max(from)
 }
 
 // The first symbol from `from` on whose target is the state, likewise.
@@ -32,14 +30,12 @@ pub fn next_exit(row: &[u16], state: u16, from: usize) -> usize
 fn next_loop(row: &[u16], state: u16, from: usize) -> usize
     ensures { result ≡ from + before (loops_at state) (drop from row.now) }
 {
-    let mut low = from;
-    while low < row.len() {
-        if row[low] == state {
-            return low;
+    for symbol in from..row.len() {
+        if row[symbol] == state {
+            return symbol;
         }
-        low += 1;
     }
-    low
+    row.len().max(from)
 }
 
 // The maximal ranges on which the row loops on the state, if there are 1 to 4 of them.

@@ -2,39 +2,30 @@
 use Prim.Native.Nat.{ℕ}
 use lib.Seq.{length-take-le}
 use mathlib.Core.Path.{◌≡◌, refl, sym, ◌∙◌}
-use mathlib.Core.Bool.{Bool, true, false, ◌||◌, or-false, or_assoc}
+use mathlib.Core.Bool.{Bool, ◌||◌, or-false, or_assoc}
 use mathlib.Core.List.{List, [], ◌∷◌}
 use lib.Dec.{eqb}
 use lib.ListN.{length, take}
 use borrow.Author.Rules.{rules}
-use borrow.Author.Tests.{eq-eqb, ne_eqb}
 use Rattle.refusal.specs.Lists.{some, before}
-use Rattle.refusal.proofs.Lists.{searching, before_≤, before_never, before_always, before_same}
+use Rattle.refusal.proofs.Lists.{before_≤, before_never, before_always, before_same}
 use Rattle.run_ranges.specs.declared.AsciiRange.{AsciiRange}
 use Rattle.run_ranges.specs.Ranges.{outside}
 use Rattle.run_shape.specs.Shape.{Shape, none, any, until, ranges}
 use Rattle.run_shape.specs.Scan.{stops, skipped}
 
 -- The tests of one, two and three exits.
-pub stops_one : (a x : ℕ) {t : Bool} → eqb x a ≡ t → stops (until (a ∷ [])) x ≡ t
+pub stops_one : (a x : ℕ) {t : Bool} → t ≡ eqb x a → t ≡ stops (until (a ∷ [])) x
 unfolding stops some
-stops_one a x e = or-false (eqb x a) ∙ e
+stops_one a x e = e ∙ sym (or-false (eqb x a))
 
-pub stops_at : (a x : ℕ) → x ≡ a → stops (until (a ∷ [])) x ≡ true
-stops_at a x e = stops_one a x (eq-eqb x a e)
-
-pub stops-not : (a x : ℕ) → (x ≡ a → ⊥) → stops (until (a ∷ [])) x ≡ false
-stops-not a x n = stops_one a x (ne_eqb x a n)
-
-pub stops-two : (a b x : ℕ) {t : Bool} → (eqb x a || eqb x b) ≡ t → stops (until (a ∷ b ∷ [])) x ≡ t
+pub stops_two : (a b x : ℕ) {t : Bool} → t ≡ (eqb x a || eqb x b) → t ≡ stops (until (a ∷ b ∷ [])) x
 unfolding stops some
-stops-two a b x e = (rw or-false) ∙ e
+stops_two a b x e = e ∙ (rw or-false)
 
-pub stops_three : (a b c x : ℕ) {t : Bool} → (eqb x a || eqb x b || eqb x c) ≡ t → stops (until (a ∷ b ∷ c ∷ [])) x ≡ t
+pub stops_three : (a b c x : ℕ) {t : Bool} → t ≡ (eqb x a || eqb x b || eqb x c) → t ≡ stops (until (a ∷ b ∷ c ∷ [])) x
 unfolding stops some
-stops_three a b c x e = (rw (or-false, or_assoc)) ∙ e
-
-pub ruleset searching_exits = (searching, stops_at, stops-not, stops-two, stops_three)
+stops_three a b c x e = e ∙ (rw (or-false, or_assoc))
 
 -- How many bytes a run skips.
 module _ (bs : List ℕ) where

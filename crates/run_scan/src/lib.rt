@@ -5,11 +5,11 @@
 // found, since bytes are left.
 #![tactic(auto)]
 
-ghost use Rattle.std.specs.Prelude.{◌≡◌, ◌≤◌, min, length, take, [], ◌∷◌};
+ghost use Rattle.std.specs.Prelude.{ℕ, Bool, ◌≡◌, ◌≤◌, min, length, take, [], ◌∷◌};
 ghost use Rattle.refusal.specs.Lists.{pick, before};
 ghost use Rattle.run_ranges.specs.Ranges.{in_range, outside, listed, used_if};
-ghost use Rattle.run_shape.specs.Shape.{shape, until};
-ghost use Rattle.run_shape.specs.Scan.{stops, skipped, scan_of};
+ghost use Rattle.run_shape.specs.Shape.{shape};
+ghost use Rattle.run_shape.specs.Scan.{skipped, scan_of};
 
 use run_ranges::{AsciiRange, AsciiRanges};
 use run_shape::{AsciiRun, AsciiRunScan};
@@ -28,19 +28,17 @@ fn outside(a: AsciiRange, b: AsciiRange, c: AsciiRange, d: AsciiRange, byte: u8)
     !(holds(a, byte) | holds(b, byte) | holds(c, byte) | holds(d, byte))
 }
 
-// How many bytes stand before the first that is in none of four ranges, byte by byte.
-#[tactic(auto, using(refusal::proofs::Lists::searching))]
-fn scan_bytes(a: AsciiRange, b: AsciiRange, c: AsciiRange, d: AsciiRange, input: &[u8]) -> usize
-    ensures { result ≡ before (outside (a ∷ b ∷ c ∷ d ∷ [])) input.now }
+// How many bytes stand before the first at which the test holds, byte by byte.
+fn before_first<F: Fn(u8) -> bool>(input: &[u8], stops: F) -> usize
+    requires { F.IsAlwaysCallable stops }
+    ensures { (p : ℕ → Bool) → ((x : ℕ) (t : Bool) → F.post stops x t → t ≡ p x) → result ≡ before p input.now }
 {
-    let mut i = 0;
-    while i < input.len() {
-        if outside(a, b, c, d, input[i]) {
-            return i;
+    for (place, byte) in input.iter().enumerate() {
+        if stops(*byte) {
+            return place;
         }
-        i += 1;
     }
-    i
+    input.len()
 }
 
 fn lesser(x: u8, y: u8) -> u8
@@ -102,7 +100,7 @@ fn scan_four(a: AsciiRange, b: AsciiRange, c: AsciiRange, d: AsciiRange, input: 
     if 16 <= input.len() {
         return scan_blocks(a, b, c, d, input);
     }
-    scan_bytes(a, b, c, d, input)
+    before_first(input, |byte| outside(a, b, c, d, byte))
 }
 
 // The range, or one that holds nothing.
@@ -128,54 +126,8 @@ pub fn scan_scalar(ranges: AsciiRanges, input: &[u8]) -> usize
     scan_four(a, b, c, d, input)
 }
 
-// How many bytes stand before the first a.
-#[tactic(auto, using(crate::proofs::Scans::searching_exits))]
-fn memchr(a: u8, input: &[u8]) -> usize
-    ensures { result ≡ before (stops (until (a ∷ []))) input.now }
-{
-    let mut i = 0;
-    while i < input.len() {
-        if input[i] == a {
-            return i;
-        }
-        i += 1;
-    }
-    i
-}
-
-// How many bytes stand before the first a or b.
-#[tactic(auto, using(crate::proofs::Scans::searching_exits))]
-fn memchr2(a: u8, b: u8, input: &[u8]) -> usize
-    ensures { result ≡ before (stops (until (a ∷ b ∷ []))) input.now }
-{
-    let mut i = 0;
-    while i < input.len() {
-        let byte = input[i];
-        if (byte == a) | (byte == b) {
-            return i;
-        }
-        i += 1;
-    }
-    i
-}
-
-// How many bytes stand before the first a, b or c.
-#[tactic(auto, using(crate::proofs::Scans::searching_exits))]
-fn memchr3(a: u8, b: u8, c: u8, input: &[u8]) -> usize
-    ensures { result ≡ before (stops (until (a ∷ b ∷ c ∷ []))) input.now }
-{
-    let mut i = 0;
-    while i < input.len() {
-        let byte = input[i];
-        if (byte == a) | (byte == b) | (byte == c) {
-            return i;
-        }
-        i += 1;
-    }
-    i
-}
-
 // How many bytes a run skips; none skips nothing.
+#[inline(always)]
 #[tactic(auto, using(crate::proofs::Scans::skipping))]
 fn skip(run: AsciiRun, input: &[u8]) -> usize
     ensures { result ≡ skipped (shape run) input.now }
@@ -183,9 +135,12 @@ fn skip(run: AsciiRun, input: &[u8]) -> usize
     match run {
         AsciiRun::None => 0,
         AsciiRun::Any => input.len(),
-        AsciiRun::Until1(a) => memchr(a, input),
-        AsciiRun::Until2(a, b) => memchr2(a, b, input),
-        AsciiRun::Until3(a, b, c) => memchr3(a, b, c, input),
+        AsciiRun::Until1(a) => before_first(input, |byte| byte == a),
+        AsciiRun::Until2(a, b) => before_first(input, |byte| (byte == a) | (byte == b)),
+        AsciiRun::Until3(a, b, c) => before_first(
+            input,
+            |byte| (byte == a) | (byte == b) | (byte == c),
+        ),
         AsciiRun::Ranges(ranges) => scan_scalar(ranges, input),
     }
 }
@@ -199,7 +154,9 @@ pub fn scan(run: AsciiRun, input: &[u8]) -> &[u8]
     &input[..bytes]
 }
 
-// The length of the skipped run, and whether an exit was found; or that there is no run.
+// The length of the skipped run, and whether an exit was found; or that there is no run. It is made part of each caller, which knows
+// what kind of run it has.
+#[inline(always)]
 #[tactic(auto, unfolding(run_shape::specs::Scan::scan_of))]
 pub fn scan_length(run: AsciiRun, input: &[u8]) -> Option<AsciiRunScan>
     ensures { result ≡ scan_of (shape run) input.now }

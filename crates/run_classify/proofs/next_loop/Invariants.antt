@@ -1,13 +1,10 @@
 -- The search's invariant: what is found from here is what is found in all.
 use Rattle.refusal.specs.Lists.{before}
 use Rattle.run_ranges.specs.Ranges.{loops_at}
-use Prim.Native.Nat.{◌-◌, ◌+◌}
+use Prim.Native.Nat.{◌+◌}
 use mathlib.Core.Path.{◌≡◌}
-use lib.ListN.{length, drop}
+use lib.ListN.{drop}
 use Rattle.run_classify.proofs.next_loop.Given as goal
 
-abbrev pub invariant-loop-low : goal.invariant-loop-low
-invariant-loop-low l = l.low + before (loops_at l.state) (drop l.low l.row) ≡ l.from + before (loops_at l.state) (drop l.from l.row)
-
-abbrev pub decreases-loop-low : goal.decreases-loop-low
-decreases-loop-low l = length l.row - l.low
+abbrev pub invariant-loop-symbol : goal.invariant-loop-symbol
+invariant-loop-symbol l = l.symbol + before (loops_at l.fn.state) (drop l.symbol l.fn.row) ≡ l.fn.from + before (loops_at l.fn.state) (drop l.fn.from l.fn.row)
