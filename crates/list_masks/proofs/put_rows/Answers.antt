@@ -1,9 +1,6 @@
 use Rattle.list_masks.proofs.Puts.{matrices}
 use Rattle.list_masks.proofs.put_rows.Goals as goal
 
-pub loop-i-init : goal.loop-i-init
-loop-i-init c = search matrices
-
 pub put_mask-k-requires : goal.put_mask-k-requires
 put_mask-k-requires c = search matrices
 

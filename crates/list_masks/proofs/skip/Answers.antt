@@ -2,9 +2,6 @@ use native.Mathlib.Omega.{arith}
 use Rattle.list_masks.proofs.Words.{skips, skip_size, skip_value}
 use Rattle.list_masks.proofs.skip.Goals as goal
 
-pub loop-init : goal.loop-init
-loop-init c = search skips
-
 pub overflow_add-here : goal.overflow_add-here
 overflow_add-here c = omega (arith, skip_size _ _ _ _ c.loop-test.true c.loop.invariant.0)
 
