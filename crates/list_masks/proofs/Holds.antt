@@ -108,8 +108,8 @@ module _ (w : List ℕ) (n p q : ℕ) where
     pub seek_hit : {x : ℕ} → q ≤ x → x ≡ number_at w (p + 8 * j + 4) → Reach w n p q j
     seek_hit h e = record { passed = s; after = λ _. omega arith }
 
-    pub seek_end : n ≤ j → Reach w n p q j
-    seek_end h = record { passed = s; after = λ l. absurd (omega arith) }
+    pub seek_end : n ≤ j → Reach w n p q n
+    seek_end h = record { passed = record { within = omega arith; before = λ i l. s.before i (omega arith) }; after = λ l. absurd (omega arith) }
 
     pub seek_turn : {x : ℕ} → j < n → x < q → x ≡ number_at w (p + 8 * j + 4) → Passed w n p q (j + 1)
     seek_turn l h e = record { within = omega arith; before = before }

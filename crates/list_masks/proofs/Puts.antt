@@ -2,7 +2,7 @@
 use mathlib.Core.Path.{◌≡◌, ap, ap₂}
 use mathlib.Core.List.{List, ◌∷◌, ◌++◌}
 use mathlib.Core.Bool.{Bool}
-use Prim.Native.Nat.{ℕ, zero, suc, ◌+◌, ◌-◌, ◌<◌, ◌≤◌, min}
+use Prim.Native.Nat.{ℕ, zero, suc, ◌+◌, ◌*◌, ◌-◌, ◌<◌, ◌≤◌, min}
 use native.Mathlib.Omega.{arith}
 use borrow.Author.Rules.{rules}
 use lib.ListN.{length, get_or, take, drop, set}
@@ -86,28 +86,33 @@ pub ruleset masking = (rules, going_start, mask_room, mask_turn, mask_front, mas
 
 -- The loop over the segments
 
-module _ (ts : List Transition) (ns : List ℕ) (left at : ℕ) where
+module _ (ts : List Transition) (ns : List ℕ) (count i : ℕ) where
   abbrev rest : List ℕ
-  rest = flat (masks_at ts (lows ns (left - 1) (at + 2)))
+  rest = flat (masks_at ts (lows ns (count - (i + 1)) (2 * (i + 1))))
 
-  matrix_open : 0 < left → flat (masks_at ts (lows ns left at)) ≡ mask_of ts (get_or ns at 0) ++ flat (masks_at ts (lows ns (left - 1) (at + 2)))
+  matrix_open : i < count → flat (masks_at ts (lows ns (count - i) (2 * i))) ≡ mask_of ts (get_or ns (2 * i) 0) ++ rest
   unfolding flat masks_at lows
-  matrix_open h = go left h
-    where
-      go : (left : ℕ) → 0 < left → flat (masks_at ts (lows ns left at)) ≡ mask_of ts (get_or ns at 0) ++ flat (masks_at ts (lows ns (left - 1) (at + 2)))
-      go zero h = absurd (omega arith)
-      go (suc left) h = let p : suc left - 1 ≡ left = omega arith in rw p
+  matrix_open h =
+      let a : count - i ≡ suc (count - (i + 1)) = omega arith in
+      let b : 2 * (i + 1) ≡ 2 * i + 2 = omega arith in
+      rw (a, b)
 
-  module _ (xs : List ℕ) (b : ℕ) (old : List ℕ) (k : ℕ) (out : List ℕ) (g : Going xs b old (flat (masks_at ts (lows ns left at))) k out) where
-    pub matrix-room : 0 < left → k + length (mask_of ts (get_or ns at 0)) ≤ length out
-    matrix-room h = going_room xs b old rest k out (mask_of ts (get_or ns at 0)) (rw (matrix_open h) at g)
+  module _ (xs : List ℕ) (b : ℕ) (old : List ℕ) (k : ℕ) (out : List ℕ) (g : Going xs b old (flat (masks_at ts (lows ns (count - i) (2 * i)))) k out) where
+    pub matrix-room : i < count → k + length (mask_of ts (get_or ns (2 * i) 0)) ≤ length out
+    matrix-room h = going_room xs b old rest k out (mask_of ts (get_or ns (2 * i) 0)) (rw (matrix_open h) at g)
 
-    pub matrix_turn : {r : ℕ} {new : List ℕ} → 0 < left → Put (mask_of ts (get_or ns at 0)) k out r new →
-        Going xs b old (flat (masks_at ts (lows ns (left - 1) (at + 2)))) r new
-    matrix_turn h p = going_turn xs b old rest k out (mask_of ts (get_or ns at 0)) p (rw (matrix_open h) at g)
+    pub matrix_turn : {r : ℕ} {new : List ℕ} → i < count → Put (mask_of ts (get_or ns (2 * i) 0)) k out r new →
+        Going xs b old (flat (masks_at ts (lows ns (count - (i + 1)) (2 * (i + 1))))) r new
+    matrix_turn h p = going_turn xs b old rest k out (mask_of ts (get_or ns (2 * i) 0)) p (rw (matrix_open h) at g)
 
-    pub matrix_done : left ≤ 0 → Put xs b old k out
+    pub matrix_done : count ≤ i → Put xs b old k out
     unfolding flat masks_at lows
-    matrix_done h = let z : left ≡ 0 = omega arith in going_done xs b old (rw z at g)
+    matrix_done h = let z : count - i ≡ 0 = omega arith in going_done xs b old (rw z at g)
 
-pub ruleset matrices = (rules, going_start, matrix-room, matrix_turn, matrix_done)
+pub matrix_start : (ts : List Transition) (ns : List ℕ) (count : ℕ) (old : List ℕ) → 0 + length (flat (masks_at ts (lows ns count 0))) ≤ length old →
+    Going (flat (masks_at ts (lows ns count 0))) 0 old (flat (masks_at ts (lows ns (count - 0) (2 * 0)))) 0 old
+matrix_start ts ns count old h =
+    let e : count - 0 ≡ count = omega arith in
+    rw e (going_start (flat (masks_at ts (lows ns count 0))) 0 old h)
+
+pub ruleset matrices = (rules, matrix_start, matrix-room, matrix_turn, matrix_done)

@@ -116,20 +116,38 @@ module _ (w : List ℕ) (at : ℕ) (f : Fit w 1 at) {s : ℕ} (e : s ≡ size_at
   pub record_order : in_order (trans_of value (get_or w at 0) (length value) 0) ≡ true
   record_order = ap in_order record_is ∙ here.order
 
--- The loop that passes records
-
-module _ (w : List ℕ) (left here : ℕ) {k : ℕ} {all : ℕ} (n : 0 < left) (e : k ≡ size_at w (here + 1)) where
-  pub skip_turn : next_of w left here ≡ all → next_of w (left - 1) (here + 3 + k) ≡ all
-  unfolding next_of
-  skip_turn i = rw e (go left n i)
-    where
-      go : (left : ℕ) → 0 < left → next_of w left here ≡ all → next_of w (left - 1) (next_at w here) ≡ all
-      go zero n i = absurd (omega arith)
-      go (suc left) n i = let p : suc left - 1 ≡ left = omega arith in rw p i
-
-pub skip_done : (w : List ℕ) (left here : ℕ) {all : ℕ} → left ≤ 0 → next_of w left here ≡ all → here ≡ all
+next_turn : (w : List ℕ) (left here : ℕ) {all : ℕ} → (left ≡ 0 → ⊥) → next_of w left here ≡ all → next_of w (left - 1) (next_at w here) ≡ all
 unfolding next_of
-skip_done w zero here n i = i
-skip_done w (suc left) here n i = absurd (omega arith)
+next_turn w zero here z r = absurd (z refl)
+next_turn w (suc left) here z r = let p : suc left - 1 ≡ left = omega arith in rw p r
 
-pub ruleset skips = (rules, nonzero, skip_turn, skip_done, word_size, word-rest, word_value)
+-- The loop that passes records: so many of n are left behind the first i
+
+module _ (w : List ℕ) (n i here : ℕ) (l : i < n) where
+  some : n - i ≡ 0 → ⊥
+  some z = omega arith
+
+  less : n - (i + 1) ≡ n - i - 1
+  less = omega arith
+
+  pub skip_size : Fit w (n - i) here → here + 1 + 2 ≤ length w
+  skip_size s = word_size w (n - i) here s some
+
+  module _ {k : ℕ} (e : k ≡ size_at w (here + 1)) where
+    pub skip_value : Fit w (n - i) here → here + 3 + k ≤ length w
+    skip_value s = word_value w (n - i) here s some e
+
+    pub skip_rest : Fit w (n - i) here → Fit w (n - (i + 1)) (here + 3 + k)
+    skip_rest s = rw less (word-rest w (n - i) here s some e)
+
+    pub skip_turn : {all : ℕ} → next_of w (n - i) here ≡ all → next_of w (n - (i + 1)) (here + 3 + k) ≡ all
+    skip_turn r = rw (e, less) (next_turn w (n - i) here some r)
+
+pub skip_start : (w : List ℕ) (n at : ℕ) → Fit w n at → Fit w (n - 0) at × (next_of w (n - 0) at ≡ next_of w n at)
+skip_start w n at s = let e : n - 0 ≡ n = omega arith in rw e (s, refl)
+
+pub skip_done : (w : List ℕ) (n i here : ℕ) {all : ℕ} → n ≤ i → next_of w (n - i) here ≡ all → here ≡ all
+unfolding next_of
+skip_done w n i here l r = let z : n - i ≡ 0 = omega arith in rw z at r
+
+pub ruleset skips = (rules, skip_start, skip_size, skip_value, skip_rest, skip_turn, skip_done)

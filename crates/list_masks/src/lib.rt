@@ -77,14 +77,12 @@ fn seek(pairs: &[u8], q: u64, hint: usize) -> usize
     ensures { Reach pairs.now (length pairs.now / 8) 0 q result }
 {
     let n = pairs.len() / 8;
-    let mut j = seek_from(pairs, q, hint);
-    while j < n {
+    for j in seek_from(pairs, q, hint)..n {
         if q <= high_at(pairs, j) {
             return j;
         }
-        j += 1;
     }
-    j
+    n
 }
 
 // The key just behind the first j pairs; 0, if j is.
@@ -161,10 +159,8 @@ fn span_at(rec: Record, q: u64, found: Span) -> Span
     requires known { Tells (transition_of rec) rec.tag found.floor found.low found.high }
     ensures { Covers (transition_of rec.entry) rec.entry.tag q result.floor result.low result.high }
 {
-    if found.floor <= q {
-        if q <= found.high {
-            return found;
-        }
+    if found.floor <= q && q <= found.high {
+        return found;
     }
     find_span(rec, q, found.pairs)
 }
@@ -208,16 +204,14 @@ fn skip(list: &[u8], at: usize, n: usize) -> usize
     ensures { result ≡ next_of list.now n at }
 {
     let mut here = at;
-    let mut left = n;
-    while 0 < left {
-        let size = size_at(list, here + 1);
-        here = here + 3 + size;
-        left -= 1;
+    for _ in 0..n {
+        here = here + 3 + size_at(list, here + 1);
     }
     here
 }
 
-// Writes the mask of a point over n records from k on, and answers the next place.
+// Writes the mask of a point over n records from k on, and answers the next place. The loop counts what is left: where the next 64 records
+// start is known by the walk alone.
 fn put_mask(list: &[u8], n: usize, point: u32, out: &mut [u64], k: usize) -> usize
     requires sound { Fit list.now n 0 }
     requires room { k + length (mask_of (trans_from list.now n 0) point) ≤ length out.old }
@@ -267,11 +261,9 @@ fn put_columns(list: &[u8], n: usize, segments: &[u32], count: usize, out: &mut 
     ensures { Put (flat (masks_at (trans_from list.now n 0) (lows segments.now count 0))) 0
         out.old result out.new }
 {
-    let mut i = n;
-    while 0 < i {
-        let at = skip(list, 0, i - 1);
+    for i in (0..n).rev() {
+        let at = skip(list, 0, i);
         add_column(record_at(list, at), segments, count, out);
-        i -= 1;
     }
     count
 }
@@ -284,14 +276,9 @@ fn put_rows(list: &[u8], n: usize, segments: &[u32], count: usize, out: &mut [u6
     ensures { Put (flat (masks_at (trans_from list.now n 0) (lows segments.now count 0))) 0
         out.old result out.new }
 {
-    let mut left = count;
-    let mut at: usize = 0;
-    let mut k: usize = 0;
-    while 0 < left {
-        let point = segments[at];
-        k = put_mask(list, n, point, out, k);
-        at += 2;
-        left -= 1;
+    let mut k = 0;
+    for i in 0..count {
+        k = put_mask(list, n, segments[2 * i], out, k);
     }
     k
 }
@@ -305,10 +292,8 @@ fn put_masks(list: &[u8], n: usize, segments: &[u32], count: usize, out: &mut [u
     ensures { Put (flat (masks_at (trans_from list.now n 0) (lows segments.now count 0))) 0
         out.old result out.new }
 {
-    if 0 < n {
-        if n <= 64 {
-            return put_columns(list, n, segments, count, out);
-        }
+    if 0 < n && n <= 64 {
+        return put_columns(list, n, segments, count, out);
     }
     put_rows(list, n, segments, count, out)
 }

@@ -3,9 +3,6 @@ use Rattle.std.proofs.lemmas.Result.{err_from_is_err_and}
 use Rattle.list_distinct.proofs.DistinctAnswers.{distincts}
 use Rattle.list_distinct.proofs.distinct_masks.Goals as goal
 
-pub place_masks-requires : goal.place_masks-requires
-place_masks-requires c = search distincts
-
 pub returns-in_err-found : goal.returns-in_err-found
 returns-in_err-found c =
     let p = err_from_is_err_and c.from_residual.result c.from_residual.ensures.1 in

@@ -5,8 +5,5 @@ use Rattle.list_distinct.proofs.place_masks.Goals as goal
 pub returns-then-too_short : goal.returns-then-too_short
 returns-then-too_short c = search placing
 
-pub fill_places-requires : goal.fill_places-requires
-fill_places-requires c = search placing
-
 pub returns : goal.returns
 returns c = search placing

@@ -5,8 +5,5 @@ use Rattle.list_masks.proofs.atom_span.Goals as goal
 pub returns-then-q-x : goal.returns-then-q-x
 returns-then-q-x c = search atoms
 
-pub overflow_add-result : goal.overflow_add-result
-overflow_add-result c = search atoms
-
 pub returns : goal.returns
 returns c = search atoms

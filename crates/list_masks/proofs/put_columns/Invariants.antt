@@ -1,9 +1,6 @@
--- The words of the records behind i stand. The measure is how many are left.
+-- The words of the records behind i stand.
 use Rattle.list_masks.proofs.Columns.{Columning}
 use Rattle.list_masks.proofs.put_columns.Given as goal
 
 abbrev pub invariant-loop-i : goal.invariant-loop-i
 invariant-loop-i l = Columning l.list l.n l.segments l.count l.initial.out l.i l.out
-
-abbrev pub decreases-loop-i : goal.decreases-loop-i
-decreases-loop-i l = l.i

@@ -2,32 +2,14 @@ use Prim.Native.Nat.{◌<◌}
 use Rattle.list_masks.proofs.Puts.{masking, mask_rest, mask_turn}
 use Rattle.list_masks.proofs.put_mask.Goals as goal
 
-pub loop-left-init : goal.loop-left-init
-loop-left-init c = search masking
-
-pub min-few-requires : goal.min-few-requires
-min-few-requires c = search masking
-
 pub word_of-requires : goal.word_of-requires
 word_of-requires c = search masking
-
-pub offset_bounds-out-m : goal.offset_bounds-out-m
-offset_bounds-out-m c = search masking
 
 pub bounds-out-m : goal.bounds-out-m
 bounds-out-m c = search masking
 
 pub skip-at-requires : goal.skip-at-requires
 skip-at-requires c = search masking
-
-pub overflow_sub-left : goal.overflow_sub-left
-overflow_sub-left c = search masking
-
-pub overflow_add-m : goal.overflow_add-m
-overflow_add-m c = search masking
-
-pub loop-left-smaller : goal.loop-left-smaller
-loop-left-smaller c = search masking
 
 pub loop-left-preserved : goal.loop-left-preserved
 loop-left-preserved c =
@@ -36,9 +18,6 @@ loop-left-preserved c =
       mask_rest _ _ _ 0 some c.min-few.ensures c.skip-at.ensures l.invariant.0,
       mask_turn _ _ _ _ some c.min-few.ensures _ _ _ _ _ l.invariant.1 c.word_of.ensures c.skip-at.ensures,
     )
-
-pub shape_of-out : goal.shape_of-out
-shape_of-out c = search masking
 
 pub returns : goal.returns
 returns c = search masking

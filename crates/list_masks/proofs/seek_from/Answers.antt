@@ -2,14 +2,5 @@
 use Rattle.list_masks.proofs.Holds.{seeks, seek_hint}
 use Rattle.list_masks.proofs.seek_from.Goals as goal
 
-pub returns-then-hint-eq0 : goal.returns-then-hint-eq0
-returns-then-hint-eq0 c = search seeks
-
-pub returns-then-pairs-hint : goal.returns-then-pairs-hint
-returns-then-pairs-hint c = search seeks
-
 pub returns-then-high_at-q : goal.returns-then-high_at-q
 returns-then-high_at-q c = seek_hint _ _ _ _ _ c.requires (search seeks) (search seeks) c.high_at.ensures.0 (search seeks)
-
-pub returns : goal.returns
-returns c = search seeks

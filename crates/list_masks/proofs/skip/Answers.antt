@@ -1,30 +1,21 @@
 use native.Mathlib.Omega.{arith}
-use Rattle.list_masks.proofs.Words.{skips, nonzero, word_size, word_value}
+use Rattle.list_masks.proofs.Words.{skips, skip_size, skip_value}
 use Rattle.list_masks.proofs.skip.Goals as goal
 
-pub loop-left-init : goal.loop-left-init
-loop-left-init c = search skips
-
 pub overflow_add-here : goal.overflow_add-here
-overflow_add-here c = omega (arith, word_size _ _ _ c.loop-left.invariant.0 (nonzero c.loop-left-test.true))
+overflow_add-here c = omega (arith, skip_size _ _ _ _ c.loop-test.true c.loop.invariant.0)
 
-pub size_at-size-requires : goal.size_at-size-requires
-size_at-size-requires c = search skips
+pub overflow_add-here-in-loop : goal.overflow_add-here-in-loop
+overflow_add-here-in-loop c = omega (arith, skip_size _ _ _ _ c.loop-test.true c.loop.invariant.0)
 
-pub overflow_add-here-in-loop-left : goal.overflow_add-here-in-loop-left
-overflow_add-here-in-loop-left c = omega (arith, word_size _ _ _ c.loop-left.invariant.0 (nonzero c.loop-left-test.true))
+pub size_at-requires : goal.size_at-requires
+size_at-requires c = skip_size _ _ _ _ c.loop-test.true c.loop.invariant.0
 
-pub overflow_add-here-in-loop-left-2 : goal.overflow_add-here-in-loop-left-2
-overflow_add-here-in-loop-left-2 c = omega (arith, word_value _ _ _ c.loop-left.invariant.0 (nonzero c.loop-left-test.true) c.size_at-size.ensures.0)
+pub overflow_add-here-in-loop-2 : goal.overflow_add-here-in-loop-2
+overflow_add-here-in-loop-2 c = omega (arith, skip_value _ _ _ _ c.loop-test.true c.size_at.ensures.0 c.loop.invariant.0)
 
-pub overflow_sub-left : goal.overflow_sub-left
-overflow_sub-left c = search skips
-
-pub loop-left-smaller : goal.loop-left-smaller
-loop-left-smaller c = search skips
-
-pub loop-left-preserved : goal.loop-left-preserved
-loop-left-preserved c = search skips
+pub loop-preserved : goal.loop-preserved
+loop-preserved c = search skips
 
 pub returns : goal.returns
 returns c = search skips

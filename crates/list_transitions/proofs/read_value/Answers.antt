@@ -24,6 +24,3 @@ returns-in-4 c = search values
 
 pub returns-in_default : goal.returns-in_default
 returns-in_default c = search values
-
-pub returns-then-not-shape : goal.returns-then-not-shape
-returns-then-not-shape c = search values
