@@ -9,7 +9,7 @@ ghost use Rattle.c_pools.specs.Answers.{interned_in_c};
 
 use refusal::Refusal;
 
-// The number of a row in its pool. A refusal of a pool has place 0, which is left out.
+// The number of a row in its pool. A refusal of a pool has place 0, which is left out. No Result, since C reads it.
 #[repr(C)]
 #[derive(Clone, Copy)]
 pub struct CInterned {

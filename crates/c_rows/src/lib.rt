@@ -10,7 +10,7 @@ ghost use Rattle.c_rows.specs.Answers.{rows_in_c, BuildsInC};
 use refusal::Refusal;
 use row_build::Rows;
 
-// How many numbers the wide row and the escape row have.
+// How many numbers the wide row and the escape row have. No Result, since C reads it.
 #[repr(C)]
 #[derive(Clone, Copy)]
 pub struct CRows {

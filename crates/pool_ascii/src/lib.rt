@@ -1,4 +1,7 @@
-// Pools of ascii rows: 128 targets each. The pool may be of any length and hold any numbers.
+// Pools of ascii rows: 128 targets each. The pool may be of any length and hold any numbers. It is lent longer than its rows, to take more, so their
+// number stands beside it (document 01).
+//
+// The functions are not one with those of pool_wide: numbers, place, size and copying of a row all differ, and a trait of all that is no plainer.
 #![tactic(auto)]
 
 ghost use Rattle.std.specs.Prelude.{◌≡◌, ◌*◌, ◌≤◌, length};

@@ -1,4 +1,5 @@
-// Pools of wide rows: a row's count, and its ranges of three numbers behind it. The pool may be of any length and hold any numbers.
+// Pools of wide rows: a row's count, and its ranges of three numbers behind it. The pool may be of any length and hold any numbers. It is lent longer
+// than its rows, to take more, so their number stands beside it (document 01). Why these are not one with the functions of pool_ascii, stands there.
 #![tactic(auto)]
 
 ghost use Rattle.std.specs.Prelude.{◌≡◌, ◌+◌, ◌*◌, ◌/◌, ◌^◌, ◌<◌, ◌≤◌, min, ◌∷◌, length, take, drop};

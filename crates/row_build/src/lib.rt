@@ -208,7 +208,7 @@ fn clear_masks(segments: &mut [u32], masks: &mut [u64], distinct: &mut [u64])
 }
 
 // The segments of a list, their masks, the distinct ones and the places of these, unless the list is refused, or it has another number of distinct masks than
-// there are targets or continuations, or a buffer for rows is too short.
+// there are targets or continuations, or a buffer for rows is too short. The four buffers stay four parameters, here and above: callers lend each alone.
 fn place_for_rows(
     list: &[u8],
     targets: usize,
