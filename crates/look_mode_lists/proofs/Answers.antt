@@ -8,6 +8,7 @@ use lib.Dec.{ltb}
 use lib.ListN.{length, take, drop, length-append}
 use borrow.Author.Rules.{rules}
 use borrow.Author.Tests.{lt-ltb, le-ltb}
+use Rattle.std.specs.Prelude.{Option, Some, None}
 use Rattle.refusal.specs.Said.{ok, ROOM, NOT-TABLE, ORDER}
 use Rattle.buffer.specs.Over.{Put, zeros}
 use Rattle.std.specs.Prelude.{Result, Ok, Err}
@@ -20,9 +21,9 @@ use Rattle.look_modes.proofs.AllModesLaws.{modes_lie}
 use Rattle.look_mode_lists.specs.Written.{refused, Writes}
 use Rattle.std.specs.List.{count_by}
 use Rattle.look_modes.specs.Start.{compiled}
-use Rattle.look_mode_lists.proofs.Walks.{compiled_counted}
+use Rattle.look_mode_lists.proofs.Walks.{compiled_counted, descent_at, no_descent}
 use Rattle.look_mode_lists.proofs.Lists.{written, unwritten, cleared_length, cleared}
-use Rattle.look_mode_lists.specs.Counts.{compiled_of, differences, counts_of, descent, counts_for, limit_of, counts_with, asked, mode_state_counts}
+use Rattle.look_mode_lists.specs.Counts.{compiled_of, differences, counts_of, descent, first_descent, counts_for, limit_of, counts_with, asked, mode_state_counts}
 use Rattle.refusal.specs.declared.Refusal.{Refusal}
 
 differences-length : (x : ℕ) (l : List ℕ) → length (differences (x ∷ l)) ≡ length l
@@ -43,22 +44,23 @@ module _ (l : List ℕ) (c : ℕ) {k : ℕ} (e : k ≡ count_by compiled l) wher
   unfolding counts_for
   counts_room n h g = let q : ltb n (length (compiled_of l)) ≡ true = lt-ltb n (length (compiled_of l)) (omega (arith, compiled_counted l)) in rw q g
 
-  module _ {p : ℕ} (f : p ≡ descent 0 l) where
-    pub counts_order : (n : ℕ) {r : Result ℕ Refusal} {new : List ℕ} → k ≤ n → p < length l → Writes r n new (refused ORDER p) → Writes r n new (counts_for n c l)
-    unfolding counts_for
-    counts_order n h i g =
-        let q : ltb n (length (compiled_of l)) ≡ false = le-ltb n (length (compiled_of l)) (omega (arith, compiled_counted l)) in
-        let s : ltb (descent 0 l) (length l) ≡ true = lt-ltb (descent 0 l) (length l) (omega arith) in
-        rw (q, s, ← f) g
+  pub counts_order : (n : ℕ) {p : ℕ} {got : Option ℕ} {r : Result ℕ Refusal} {new : List ℕ} → k ≤ n → got ≡ first_descent l → got ≡ Some p → Writes r n new (refused ORDER p)
+      → Writes r n new (counts_for n c l)
+  unfolding counts_for
+  counts_order n {p} h u f g =
+      let d = descent_at l p (sym u ∙ f) in
+      let q : ltb n (length (compiled_of l)) ≡ false = le-ltb n (length (compiled_of l)) (omega (arith, compiled_counted l)) in
+      let s : ltb (descent 0 l) (length l) ≡ true = lt-ltb (descent 0 l) (length l) (omega (arith, d.0, d.1)) in
+      rw (q, s, ← d.1) g
 
-    pub counts_written : (d : List ℕ) {r : ℕ} {new : List ℕ} → k ≤ length d → length l ≤ p → d ≡ zeros (length d) → Put (counts_of c l) 0 d r new
-        → Writes (Ok r) (length d) new (counts_for (length d) c l)
-    unfolding counts_for
-    counts_written d h i z g =
-        let q : ltb (length d) (length (compiled_of l)) ≡ false = le-ltb (length d) (length (compiled_of l)) (omega (arith, compiled_counted l)) in
-        let s : ltb (descent 0 l) (length l) ≡ false = le-ltb (descent 0 l) (length l) (omega arith) in
-        let b : length (counts_of c l) ≤ length d = omega (arith, counts_length c (compiled_of l), compiled_counted l) in
-        rw (q, s) (written (counts_of c l) d b z g)
+  pub counts_written : (d : List ℕ) {got : Option ℕ} {r : ℕ} {new : List ℕ} → k ≤ length d → got ≡ first_descent l → got ≡ None → d ≡ zeros (length d) → Put (counts_of c l) 0 d r new
+      → Writes (Ok r) (length d) new (counts_for (length d) c l)
+  unfolding counts_for
+  counts_written d h u i z g =
+      let q : ltb (length d) (length (compiled_of l)) ≡ false = le-ltb (length d) (length (compiled_of l)) (omega (arith, compiled_counted l)) in
+      let s : ltb (descent 0 l) (length l) ≡ false = le-ltb (descent 0 l) (length l) (no_descent l (sym u ∙ i)) in
+      let b : length (counts_of c l) ≤ length d = omega (arith, counts_length c (compiled_of l), compiled_counted l) in
+      rw (q, s) (written (counts_of c l) d b z g)
 
 pub ruleset listing = (rules, unwritten, counts_fit, counts_room, counts_order, counts_written)
 

@@ -6,14 +6,15 @@ use mathlib.Core.Bool.{Bool, true, false, cond}
 use mathlib.Core.List.{List, ◌∷◌}
 use lib.Dec.{ltb, leb}
 use lib.ListN.{length, get_or, drop}
+use Rattle.std.specs.Prelude.{Some, None}
 use Rattle.std.specs.List.{count_by}
 use Rattle.std.proofs.lemmas.List.Recursion.{is_count_by}
 use borrow.Author.Rules.{rules}
-use borrow.Author.Tests.{lt-ltb, le-ltb}
+use borrow.Author.Tests.{lt-ltb, le-ltb, ltb-true, ltb-false}
 use Rattle.refusal.specs.Lists.{pick}
 use Rattle.look_mode_lists.proofs.Lists.{opens, closes}
 use Rattle.look_modes.specs.Start.{compiled}
-use Rattle.look_mode_lists.specs.Counts.{compiled_of, later, descent}
+use Rattle.look_mode_lists.specs.Counts.{compiled_of, later, descent, first_descent}
 
 -- Compiled modes that are counted
 pub compiled_counted : (l : List ℕ) → length (compiled_of l) ≡ count_by compiled l
@@ -25,6 +26,30 @@ compiled_counted = is_count_by (λ (l : List ℕ). length (compiled_of l)) compi
     one false x l = refl
 
 -- A descent that is looked for
+
+pub descent_found : (l : List ℕ) (p : ℕ) → p < length l → p ≡ descent 0 l → Some p ≡ first_descent l
+unfolding first_descent
+descent_found l p h e = rw (← e, lt-ltb p (length l) h)
+
+pub descent_missing : (l : List ℕ) → length l ≤ descent 0 l → None ≡ first_descent l
+unfolding first_descent
+descent_missing l h = rw (le-ltb (descent 0 l) (length l) h)
+
+pub descent_at : (l : List ℕ) (p : ℕ) → first_descent l ≡ Some p → (p < length l) × (p ≡ descent 0 l)
+unfolding first_descent
+descent_at l p e = go (ltb (descent 0 l) (length l)) refl e
+  where
+    go : (b : Bool) → ltb (descent 0 l) (length l) ≡ b → pick b (Some (descent 0 l)) None ≡ Some p → (p < length l) × (p ≡ descent 0 l)
+    go true t k = let q : descent 0 l ≡ p = cc in (omega (arith, ltb-true _ _ t), omega arith)
+    go false t k = cc
+
+pub no_descent : (l : List ℕ) → first_descent l ≡ None → length l ≤ descent 0 l
+unfolding first_descent
+no_descent l e = go (ltb (descent 0 l) (length l)) refl e
+  where
+    go : (b : Bool) → ltb (descent 0 l) (length l) ≡ b → pick b (Some (descent 0 l)) None ≡ None → length l ≤ descent 0 l
+    go true t k = cc
+    go false t k = ltb-false _ _ t
 
 module _ (ys : List ℕ) (j k last : ℕ) {all : ℕ} (i : k + descent last (drop j ys) ≡ all) where
   pub descent_turn : {next : ℕ} → j < length ys → last ≤ get_or ys j 0 → next ≡ later last (get_or ys j 0)

@@ -1,6 +1,6 @@
 -- How many states each compiled mode has (document 01, "Lookups"). w is the room, l the starts of its modes, c its state count, n how many
 -- numbers the lent buffer has. Assumes nothing.
-use Rattle.std.specs.Prelude.{ℕ, suc, ◌-◌, List, [], ◌∷◌, ◌++◌, ltb, leb, length, get_or}
+use Rattle.std.specs.Prelude.{ℕ, suc, ◌-◌, List, [], ◌∷◌, ◌++◌, ltb, leb, length, get_or, Option, Some, None}
 use Rattle.refusal.specs.Said.{Said, ok, no_by, ROOM, NOT-TABLE, ORDER}
 use Rattle.refusal.specs.Lists.{pick}
 use Rattle.look_modes.specs.Start.{compiled}
@@ -33,6 +33,10 @@ later last x = pick (compiled x) x last
 unfoldable pub descent : ℕ → List ℕ → ℕ
 descent last [] = 0
 descent last (x ∷ l) = pick (ltb x last) 0 (suc (descent (later last x) l))
+
+-- its number, if there is one
+unfoldable pub first_descent : List ℕ → Option ℕ
+first_descent l = pick (ltb (descent 0 l) (length l)) (Some (descent 0 l)) None
 
 unfoldable pub counts_for : ℕ → ℕ → List ℕ → Wrote
 counts_for n c l =

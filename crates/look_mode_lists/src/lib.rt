@@ -9,7 +9,7 @@ ghost use Rattle.look_modes.specs.Start.{compiled};
 ghost use Rattle.refusal.specs.Said.{refusal_at};
 ghost use Rattle.look_mode_lists.specs.Written.{Writes};
 ghost use Rattle.look_mode_lists.specs.Flags.{flag, flags_for, mode_flags};
-ghost use Rattle.look_mode_lists.specs.Counts.{counts_of, later, descent, counts_for, limit_of, counts_with, mode_state_counts, gap, step};
+ghost use Rattle.look_mode_lists.specs.Counts.{counts_of, later, first_descent, counts_for, limit_of, counts_with, mode_state_counts, gap, step};
 
 use refusal::{NONE, NOT_TABLE, ORDER, ROOM, Refusal, STATE};
 use room_find::Missing;
@@ -28,10 +28,7 @@ fn refuse(number: u32, place: usize) -> Result<usize, Refusal>
 fn flag_of(start: u32) -> u32
     ensures { (result ≡ flag start) × (result ≤ 1) }
 {
-    if start <= 65535 {
-        return 1;
-    }
-    0
+    u32::from(start <= 65535)
 }
 
 fn put_flags(starts: &[u32], out: &mut [u32]) -> usize
@@ -78,24 +75,21 @@ fn compiled_count(starts: &[u32]) -> usize
 fn later_of(last: u32, x: u32) -> u32
     ensures { result ≡ later last x }
 {
-    if x <= 65535 {
-        return x;
-    }
-    last
+    if x <= 65535 { x } else { last }
 }
 
-// The number of the first compiled mode that starts below the one before it, or how many modes there are.
-fn first_descent(starts: &[u32]) -> usize
-    ensures { result ≡ descent 0 starts.now }
+// The number of the first compiled mode that starts below the one before it.
+fn first_descent(starts: &[u32]) -> Option<usize>
+    ensures { result ≡ first_descent starts.now }
 {
     let mut last = 0;
     for (i, start) in starts.iter().enumerate() {
         if *start < last {
-            return i;
+            return Some(i);
         }
         last = later_of(last, *start);
     }
-    starts.len()
+    None
 }
 
 fn put_gap(last: u32, next: u32, out: &mut [u32], m: usize) -> usize
@@ -141,8 +135,7 @@ fn counts_into(starts: &[u32], states: u32, out: &mut [u32]) -> Result<usize, Re
     if out.len() < compiled_count(starts) {
         return refuse(ROOM, 0);
     }
-    let place = first_descent(starts);
-    if place < starts.len() {
+    if let Some(place) = first_descent(starts) {
         return refuse(ORDER, place);
     }
     Ok(put_counts(starts, states, out))
@@ -151,10 +144,7 @@ fn counts_into(starts: &[u32], states: u32, out: &mut [u32]) -> Result<usize, Re
 fn limit_of(states: u32) -> u32
     ensures { result ≡ limit_of states }
 {
-    if states <= 65535 {
-        return states;
-    }
-    65535
+    states.min(65535)
 }
 
 fn counts_with(room: &[u32], states: u32, out: &mut [u32]) -> Result<usize, Refusal>

@@ -72,7 +72,5 @@ row_missed w at e x {m} = go (leb e (length w)) (ltb at e) (ltb (get_or w at 0 *
     go true false c f h = cc
     go false b c f h = cc
 
--- what the two loops are left with
-pub ruleset searching = (rules, hit, gap, past, over)
-
+-- what the loop by fours is left with
 pub ruleset skipping = (rules, past_four)

@@ -16,7 +16,8 @@ struct Rest {
     left: u32,
 }
 
-// Passes ranges by fours while no high reaches `x`.
+// Passes ranges by fours while no high reaches `x`. A `while`, since over chunks of twelve numbers the place of the first range that is
+// not passed, and how many are left, would have to be counted beside: no plainer.
 fn skip(room: &[u32], x: u32, count: u32, at: usize) -> Rest
     requires { at + count * 3 ≤ length room.now }
     ensures { (found room.now x result.left result.at ≡ found room.now x count at)
@@ -48,9 +49,8 @@ fn find_from(room: &[u32], x: u32, count: u32, at: usize) -> Option<u32>
     requires { at + count * 3 ≤ length room.now }
     ensures { result ≡ found room.now x count at }
 {
-    let mut left = count;
     let mut here = at;
-    while 0 < left {
+    for _ in 0..count {
         if x <= room[here + 1] {
             if room[here] <= x {
                 return Some(room[here + 2]);
@@ -58,7 +58,6 @@ fn find_from(room: &[u32], x: u32, count: u32, at: usize) -> Option<u32>
             return None;
         }
         here += 3;
-        left -= 1;
     }
     None
 }

@@ -4,8 +4,8 @@ use Rattle.look_mode_lists.proofs.counts_into.Goals as goal
 pub returns-then-out-compiled_count : goal.returns-then-out-compiled_count
 returns-then-out-compiled_count c = search listing
 
-pub returns-then-place-starts : goal.returns-then-place-starts
-returns-then-place-starts c = search listing
+pub returns-in-Some : goal.returns-in-Some
+returns-in-Some c = search listing
 
 pub put_counts-requires : goal.put_counts-requires
 put_counts-requires c = search listing

@@ -1,18 +1,22 @@
+use Prim.Native.Nat.{◌+◌, ◌-◌}
+use mathlib.Core.Path.{◌≡◌}
 use native.Mathlib.Omega.{arith}
-use Rattle.look_row.proofs.Searches.{hit, searching}
+use Rattle.look_row.proofs.Searches.{hit, gap, past, over}
 use Rattle.look_row.proofs.find_from.Goals as goal
 
 pub returns-then-room-here : goal.returns-then-room-here
 returns-then-room-here c =
-    let l = c.loop-left in
-    let s = c.args in
-    hit s.room.now s.x l.left l.here (omega arith) (omega arith) (omega arith) l.invariant.0
+    hit c.args.room.now c.args.x (c.args.count - c.loop.counter) c.loop.here (omega arith) (omega arith) (omega arith) c.loop.invariant.0
 
 pub returns-then-x-room : goal.returns-then-x-room
-returns-then-x-room c = search searching
+returns-then-x-room c =
+    gap c.args.room.now c.args.x (c.args.count - c.loop.counter) c.loop.here (omega arith) (omega arith) (omega arith) c.loop.invariant.0
 
-pub loop-left-preserved : goal.loop-left-preserved
-loop-left-preserved c = search searching
+pub loop-preserved : goal.loop-preserved
+loop-preserved c =
+    let p = past c.args.room.now c.args.x (c.args.count - c.loop.counter) c.loop.here (omega arith) (omega arith) c.loop.invariant.0 in
+    let e : c.args.count - c.loop.counter - 1 ≡ c.args.count - (c.loop.counter + 1) = omega arith in
+    (rw e at p, omega arith)
 
 pub returns : goal.returns
-returns c = search searching
+returns c = over c.args.room.now c.args.x (c.args.count - c.loop.counter) c.loop.here (omega arith) c.loop.invariant.0
