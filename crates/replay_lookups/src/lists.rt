@@ -4,17 +4,15 @@ use refusal::MAX_WORDS;
 use replay_io::tally::Replayed;
 use replay_io::{check, read};
 
-// A refusal is a length that no output has.
-const REFUSED: usize = 65535;
-
-fn written(answer: Written) -> usize {
+// No record is of a refusal.
+fn written(answer: Written) -> Option<usize> {
     match answer {
-        Written::Numbers(n) => n,
-        Written::Refused(_) => REFUSED,
+        Written::Numbers(n) => Some(n),
+        Written::Refused(_) => None,
     }
 }
 
-fn write(room: &[u32], kind: u8, out: &mut [u32]) -> usize {
+fn write(room: &[u32], kind: u8, out: &mut [u32]) -> Option<usize> {
     match kind {
         11 => written(look_mode_lists::compiled_mode_flags(room, out)),
         12 => written(look_mode_lists::mode_state_counts(room, out)),
@@ -28,6 +26,7 @@ pub(crate) fn replay_list(room: &[u32], kind: u8, record: &[u8]) -> Replayed {
     let length = write(room, kind, &mut out);
     Replayed {
         more: 6,
-        same: (length == read::size(record, 1)) & (check::short(&out) == read::word(record, 3)),
+        same: (length == Some(read::size(record, 1)))
+            & (check::short(&out) == read::word(record, 3)),
     }
 }

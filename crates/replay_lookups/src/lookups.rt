@@ -8,28 +8,27 @@ use room_find::Answer;
 // The number of a record for no start, accept or continuation.
 const NONE: u32 = 4294967295;
 
-// A refusal is a number that no record has, so it differs from each.
-const REFUSED: u32 = 4294967294;
-
-fn start(answer: Start) -> u32 {
+// No record is of a refusal.
+fn start(answer: Start) -> Option<u32> {
     match answer {
-        Start::At(state) => state as u32,
-        Start::Nowhere => NONE,
-        Start::NotTable => REFUSED,
+        Start::At(state) => Some(u32::from(state)),
+        Start::Nowhere => Some(NONE),
+        Start::NotTable => None,
     }
 }
 
 // NONE is the answer's own number for no accept and for no continuation.
-fn told(answer: Answer) -> u32 {
+fn told(answer: Answer) -> Option<u32> {
     match answer {
-        Answer::Number(n) => n,
-        Answer::NoState => REFUSED,
-        Answer::NotTable => REFUSED,
+        Answer::Number(n) => Some(n),
+        Answer::NoState => None,
+        Answer::NotTable => None,
     }
 }
 
-// What kinds 1 to 9 answer.
-fn looked_up(room: &[u32], kind: u8, state: u16, symbol: u32, ascii: u8) -> u32 {
+// What kinds 1 to 9 answer. (The kinds stay numbers, here and in the other programs: they are those of the table in main.rt, and an enum would name each
+// of them once more.)
+fn looked_up(room: &[u32], kind: u8, state: u16, symbol: u32, ascii: u8) -> Option<u32> {
     match kind {
         1 => start(look_modes::mode_start(room, symbol)),
         2 => told(look_modes::state_count(room)),
@@ -54,7 +53,7 @@ pub(crate) fn replay_number(room: &[u32], kind: u8, record: &[u8]) -> Replayed {
     );
     Replayed {
         more: 10,
-        same: ours == read::word(record, 7),
+        same: ours == Some(read::word(record, 7)),
     }
 }
 
