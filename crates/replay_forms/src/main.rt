@@ -33,12 +33,7 @@ fn range_at(s: &[u8]) -> WideRange {
 }
 
 fn row_at(s: &[u8]) -> [WideRange; 4] {
-    [
-        range_at(s),
-        range_at(read::after(s, 10)),
-        range_at(read::after(s, 20)),
-        range_at(read::after(s, 30)),
-    ]
+    std::array::from_fn(|i| range_at(read::after(s, 10 * i)))
 }
 
 // Whether our answer is not the recorded one.

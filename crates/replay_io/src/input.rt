@@ -13,6 +13,7 @@ pub fn read_full<R: Read>(from: &mut R, out: &mut [u8]) -> Result<usize>
     ensures whole { IfOk result (λ n. n < length out.new → IsAtEnd (R.remaining from.new)) }
     ensures none_lost { OnErr result ((n : ℕ) × (n ≤ length out.new) × Consumes (R.remaining from.old) (R.remaining from.new) (take n out.new)) }
 {
+    // A read says by how many bytes it comes on, so this is no loop over a range.
     let mut done = 0;
     while done < out.len() {
         let n = from.read(&mut out[done..])?;

@@ -84,7 +84,8 @@ pub fn put_halves(bytes: &[u8], out: &mut [u16]) -> usize
     n
 }
 
-// The same of words.
+// The same of words. (Not one function for both: over a type of numbers the contract would say of the buffer which values its elements have, and no more
+// that it equals the numbers, and each number would come through a trait.)
 pub fn put_words(bytes: &[u8], out: &mut [u32]) -> usize
     ensures prefix_len { IsPrefixLen result out.new }
     ensures put_whole { PutWhole 4 bytes.now out.old result out.new }

@@ -3,18 +3,12 @@ use refusal::{MAX_WORDS, Refusal};
 use replay_io::tally::Replayed;
 use replay_io::{check, read};
 
-// A refusal is a length that no output has.
-const REFUSED: usize = 65535;
-
-fn written(answer: Result<usize, Refusal>) -> usize {
-    answer.unwrap_or(REFUSED)
-}
-
-fn write(room: &[u32], kind: u8, out: &mut [u32]) -> usize {
+// How many numbers were written. No record is of a refusal.
+fn write(room: &[u32], kind: u8, out: &mut [u32]) -> Result<usize, Refusal> {
     match kind {
-        11 => written(look_mode_lists::compiled_mode_flags(room, out)),
-        12 => written(look_mode_lists::mode_state_counts(room, out)),
-        _ => written(room_encode::encode(room, out)),
+        11 => look_mode_lists::compiled_mode_flags(room, out),
+        12 => look_mode_lists::mode_state_counts(room, out),
+        _ => room_encode::encode(room, out),
     }
 }
 
@@ -24,6 +18,7 @@ pub(crate) fn replay_list(room: &[u32], kind: u8, record: &[u8]) -> Replayed {
     let length = write(room, kind, &mut out);
     Replayed {
         more: 6,
-        same: (length == read::size(record, 1)) & (check::short(&out) == read::word(record, 3)),
+        same: (length.ok() == Some(read::size(record, 1)))
+            & (check::short(&out) == read::word(record, 3)),
     }
 }

@@ -8,33 +8,23 @@ use run_shape::AsciiRunScan;
 // The number of a record for no start, accept or continuation.
 const NONE: u32 = 4294967295;
 
-// A refusal is a number that no record has, so it differs from each.
-const REFUSED: u32 = 4294967294;
-
-fn start(answer: Result<Option<u16>, Missing>) -> u32 {
-    match answer {
-        Ok(start) => start.map_or(NONE, u32::from),
-        Err(_) => REFUSED,
-    }
+fn start(answer: Result<Option<u16>, Missing>) -> Option<u32> {
+    Some(answer.ok()?.map_or(NONE, u32::from))
 }
 
-// NONE is the answer's own number for no accept and for no continuation.
-fn told(answer: Result<u32, Missing>) -> u32 {
-    answer.unwrap_or(REFUSED)
-}
-
-// What kinds 1 to 9 answer.
-fn looked_up(room: &[u32], kind: u8, state: u16, symbol: u32, ascii: u8) -> u32 {
+// What kinds 1 to 9 answer: NONE is the answer's own number for no accept and for no continuation. No record is of a refusal. (The kinds stay numbers, here and in the other programs: they are those of the table in main.rt, and an enum would name each
+// of them once more.)
+fn looked_up(room: &[u32], kind: u8, state: u16, symbol: u32, ascii: u8) -> Option<u32> {
     match kind {
         1 => start(look_modes::mode_start(room, symbol)),
-        2 => told(look_modes::state_count(room)),
-        3 => told(look_accepts::accept(room, state)),
-        4 => told(look_targets::ascii_target(room, state, ascii)),
-        5 => told(look_targets::char_target(room, state, symbol)),
-        6 => told(look_targets::eof_target(room, state)),
-        7 => told(look_continuations::char_continuation(room, state, symbol)),
-        8 => told(look_continuations::eof_continuation(room, state)),
-        _ => told(room_coverage::coverage(room, state)),
+        2 => look_modes::state_count(room).ok(),
+        3 => look_accepts::accept(room, state).ok(),
+        4 => look_targets::ascii_target(room, state, ascii).ok(),
+        5 => look_targets::char_target(room, state, symbol).ok(),
+        6 => look_targets::eof_target(room, state).ok(),
+        7 => look_continuations::char_continuation(room, state, symbol).ok(),
+        8 => look_continuations::eof_continuation(room, state).ok(),
+        _ => room_coverage::coverage(room, state).ok(),
     }
 }
 
@@ -49,7 +39,7 @@ pub(crate) fn replay_number(room: &[u32], kind: u8, record: &[u8]) -> Replayed {
     );
     Replayed {
         more: 10,
-        same: ours == read::word(record, 7),
+        same: ours == Some(read::word(record, 7)),
     }
 }
 

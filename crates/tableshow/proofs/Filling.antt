@@ -2,7 +2,7 @@
 use Prim.Native.Nat.{ℕ, zero, suc, ◌+◌, ◌-◌, ◌/◌, ◌%◌, ◌<◌, ◌≤◌}
 use native.Mathlib.Nat.{not-suc-le-zero}
 use native.Mathlib.Omega.{arith}
-use mathlib.Core.Bool.{false}
+use mathlib.Core.Bool.{Bool, true, false}
 use mathlib.Core.Path.{◌≡◌, refl, ap}
 use mathlib.Core.List.{List, [], ◌∷◌, ◌++◌, append-nil}
 use mir.Syntax.{w64}
@@ -16,7 +16,8 @@ use Rattle.refusal.specs.Lists.{pick}
 use Rattle.program_io.specs.Shown.{Shown}
 use Rattle.tableshow.specs.Joined.{joined, if_less, if_same}
 use Rattle.program_io.specs.Decimal.{number}
-use Rattle.tableshow.specs.Names.{hex_digit, symbol, quoted, front, four, point, range}
+use Rattle.tableshow.specs.declared.rows.Kind.{Kind}
+use Rattle.tableshow.specs.Names.{hex_digit, symbol, quoted, front, four, point, range, target}
 use Rattle.tableshow.specs.Texts as t
 use Rattle.tableshow.specs.Forms.{filled, digit_in, glyph_of, number_in, exit_in, low_in, high_in, piece, forms, drawn, formed}
 use Rattle.tableshow.specs.Rows.{gap}
@@ -144,7 +145,17 @@ module _ (a b : ℕ) (xs ys : List ℕ) {t : List ℕ} where
   unfolding if_same
   is_known k h i e = rw (h, i) e
 
-pub ruleset choices = (rules, is_less, is_not_less, is_same, is_not_same, is_known)
+pub kind_known : {k : Kind} (j : Kind) (t : ℕ) {s : List ℕ} → k ≡ j → s ≡ target j t → s ≡ target k t
+kind_known j t e h = rw e h
+
+-- a flag as a number
+pub flag_not : {x : Bool} → x ≡ false → ◌≡◌ {A = ℕ} (pick x 1 0) 0
+flag_not e = rw e
+
+pub flag_set : {x : Bool} → x ≡ true → ◌≡◌ {A = ℕ} (pick x 1 0) 0 → ⊥
+flag_set e h = let z : ◌≡◌ {A = ℕ} 1 0 = rw e at h in absurd (omega arith)
+
+pub ruleset choices = (rules, is_less, is_not_less, is_same, is_not_same, is_known, kind_known)
 
 -- symbols
 
@@ -334,7 +345,7 @@ pub ruleset reasons = (rules, rule_known, rule_last, reason_rule, reason_known, 
 pub ruleset drawn-runs = (until_1, until_2, until_3, on_1, on_2, on_3, on_4)
 
 pub ruleset lines =
-    (choices, drawn-runs, record_plain, record_end, record_actions, record_both, not-compiled, starts_at, end_to, end_escape, end_continuation_lem)
+    (choices, drawn-runs, flag_not, flag_set, record_plain, record_end, record_actions, record_both, not-compiled, starts_at, end_to, end_escape, end_continuation_lem)
 
 -- the forms that are not chosen
 

@@ -26,6 +26,8 @@ use Rattle.tableshow.specs.Joined.{joined}
 use Rattle.tableshow.specs.Names.{hex_digit, range, target}
 use Rattle.tableshow.specs.Forms.{formed}
 use Rattle.tableshow.specs.Rows.{gap, after, ending, item, or_else, target_on, edge, low_after, items_after, edge_at, low_at, items_at, ascii_from}
+use Rattle.tableshow.specs.declared.rows.Kind.{Kind}
+use Rattle.tableshow.specs.declared.rows.Kind.TheVariants.{Target, Continuation}
 use Rattle.tableshow.specs.Rows.{ascii_text, ranges_from, row_text, place_of, wide_row, first_with, wide_with, wide_text, escapes_text}
 use Rattle.tableshow.specs.Page.{part, record_line, said_line, accept_text, head_text, run_text, run_line, end_target, end_continuation, start_line}
 use Rattle.tableshow.specs.Page.{mode_text, table_text, reason_text, refusal_text}
@@ -86,7 +88,7 @@ module _ (t v low x p : ℕ) {n : ℕ} {d : List ℕ} where
   unfolding edge
   edge_dead h k = if_not_same t v [] _ h (if_same_lem t DEAD-STATE [] _ k (shown_none n d))
 
-  pub edge_on : {r : ℕ} {new : List ℕ} → Shown (item p low x 0 t) n d r new → (t ≡ v → ⊥) → (t ≡ DEAD-STATE → ⊥) →
+  pub edge_on : {r : ℕ} {new : List ℕ} → Shown (item p low x Target t) n d r new → (t ≡ v → ⊥) → (t ≡ DEAD-STATE → ⊥) →
       Shown (edge t v low x p) n d r new
   unfolding edge
   edge_on q h k = if_not_same t v [] _ h (if_not_same t DEAD-STATE [] _ k q)
@@ -149,14 +151,14 @@ pub ruleset edges = (rules, edges_start, edges_done)
 
 pub ruleset edges-on = (edges_turn)
 
-module _ (kind : ℕ) (w : List ℕ) (count at : ℕ) where
+module _ (kind : Kind) (w : List ℕ) (count at : ℕ) where
   pub ranges_start : (p n : ℕ) (old : List ℕ) → Coming (ranges_from kind w count at p) n old (ranges_from kind w (count - 0) (at + 3 * 0) p) n old
   ranges_start p n old =
       let y : count - 0 ≡ count = omega arith in
       let z : at + 3 * 0 ≡ at = omega arith in
       rw (y, z) (coming_start _ _ _)
 
-module _ (kind : ℕ) (w : List ℕ) (count at i p : ℕ) {xs : List ℕ} {n : ℕ} {old : List ℕ} {m : ℕ} {out : List ℕ} where
+module _ (kind : Kind) (w : List ℕ) (count at i p : ℕ) {xs : List ℕ} {n : ℕ} {old : List ℕ} {m : ℕ} {out : List ℕ} where
   pub ranges_turn : {a b c r q : ℕ} {new : List ℕ} → Shown (item p a b kind c) m out r new → a ≡ get_or w (at + 3 * i) 0 → b ≡ get_or w (at + 3 * i + 1) 0 →
       c ≡ get_or w (at + 3 * i + 2) 0 → q ≡ after p → i < count → Coming xs n old (ranges_from kind w (count - i) (at + 3 * i) p) m out →
       Coming xs n old (ranges_from kind w (count - (i + 1)) (at + 3 * (i + 1)) q) r new
@@ -200,11 +202,11 @@ pub ruleset firsts = (rules, first_turn, first_hit, first_done)
 -- What is shown by a form, of numbers that calls answered
 
 module _ {n : ℕ} {d : List ℕ} {r : ℕ} {new : List ℕ} (f : ℕ) where
-  pub said_put : (g : Said) (x : Bool) (k : ℕ) {a l b : ℕ} → Shown (formed f k a b) n d r new →
-      ((j rule : ℕ) → formed f j rule b ≡ record_line j rule l b) → a ≡ part 0 g → l ≡ pick x 1 0 → pick x 1 0 ≡ part 1 g →
-      b ≡ part 2 g → Shown (said_line k g) n d r new
+  pub said_put : (g : Said) (x : Bool) (k : ℕ) {a b : ℕ} → Shown (formed f k a b) n d r new →
+      ((j rule : ℕ) → formed f j rule b ≡ record_line j rule (pick x 1 0) b) → a ≡ part 0 g → pick x 1 0 ≡ part 1 g → b ≡ part 2 g →
+      Shown (said_line k g) n d r new
   unfolding said_line
-  said_put g x k {a} p h i j e b = rw (← i, ← e, ← j, ← b) (rw (h k a) at p)
+  said_put g x k {a} p h i e b = rw (← i, ← e, ← b) (rw (h k a) at p)
 
   module _ (w : List ℕ) (s : ℕ) {k : ℕ} {g : Said} where
     pub start_put : Shown (formed f s k 0) n d r new → ((m : ℕ) → formed f m k 0 ≡ start_line m k) → k ≡ or_else NONE g → g ≡ mode_start w s →
@@ -224,7 +226,7 @@ module _ {n : ℕ} {d : List ℕ} {r : ℕ} {new : List ℕ} (f : ℕ) where
   run_line_lem w at {a} {b} {c} p h i j k = rw (← i, ← j, ← k) (rw (h b c) at p)
 
   module _ {q : ℕ} {d₂ : List ℕ} where
-    pub item_put : (p low high kind t g : ℕ) → Shown (formed f low high 0) n d r new → Shown (formed g t 0 0) r new q d₂ →
+    pub item_put : (p low high : ℕ) (kind : Kind) (t g : ℕ) → Shown (formed f low high 0) n d r new → Shown (formed g t 0 0) r new q d₂ →
         ((a b : ℕ) → formed f a b 0 ≡ joined (gap p ∷ range a b ∷ [])) → formed g t 0 0 ≡ target kind t →
         Shown (item p low high kind t) n d q d₂
     item_put p low high kind t g x y h i = joined_2 (rw (h low high) at x) (rw i at y)
@@ -257,7 +259,7 @@ module _ {n : ℕ} {d : List ℕ} {r : ℕ} {new : List ℕ} where
         Shown (wide_text w s) n d r new
     wide_put p a b c = rw (← c, ← b, ← a) p
 
-    pub escapes_put : {at : ℕ} → Shown (row_text (formed 540 0 0 0) 1 w (at + 1)) n d r new → at ≡ place_of w ESCAPES-START s → Shown (escapes_text w s) n d r new
+    pub escapes_put : {at : ℕ} → Shown (row_text (formed 540 0 0 0) Continuation w (at + 1)) n d r new → at ≡ place_of w ESCAPES-START s → Shown (escapes_text w s) n d r new
     escapes_put p a = rw (← a) (rw is_escapes at p)
 
     pub run_put : {at : ℕ} → Shown (run_line w at) n d r new → at ≡ place_of w RUNS-START s → Shown (run_line w (place_of w RUNS-START s)) n d r new
@@ -265,7 +267,7 @@ module _ {n : ℕ} {d : List ℕ} {r : ℕ} {new : List ℕ} where
 
 -- a wide row, or the state that has the same; k is its length
 module _ (w : List ℕ) (s at t : ℕ) {n : ℕ} {d : List ℕ} where
-  pub wide_row_lem : {r : ℕ} {new : List ℕ} → Shown (row_text (formed 507 0 0 0) 0 w at) n d r new → t ≡ s → Shown (wide_with w s at t) n d r new
+  pub wide_row_lem : {r : ℕ} {new : List ℕ} → Shown (row_text (formed 507 0 0 0) Target w at) n d r new → t ≡ s → Shown (wide_with w s at t) n d r new
   wide_row_lem p h = if_same_lem t s _ _ h (rw is_wide at p)
 
   pub wide_none : (k : ℕ) → k ≡ get_or w at 0 → k ≡ 0 → (t ≡ s → ⊥) → Shown (wide_with w s at t) n d n d
@@ -276,7 +278,7 @@ module _ (w : List ℕ) (s at t : ℕ) {n : ℕ} {d : List ℕ} where
   wide_shared k p e i h = if_not_same t s _ _ h (if_not_same_as (get_or w at 0) 0 [] _ k e i (rw (is_wide_as t) at p))
 
 -- the row whose length k stands at a place
-module _ (label : List ℕ) (kind : ℕ) (w : List ℕ) (at k : ℕ) {n : ℕ} {d : List ℕ} where
+module _ (label : List ℕ) (kind : Kind) (w : List ℕ) (at k : ℕ) {n : ℕ} {d : List ℕ} where
   pub row-none : k ≡ get_or w at 0 → k ≡ 0 → Shown (row_text label kind w at) n d n d
   row-none e h = if_same_as (get_or w at 0) 0 [] _ k e h (shown_none n d)
 

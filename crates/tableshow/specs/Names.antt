@@ -3,6 +3,8 @@ use Rattle.std.specs.Prelude.{ℕ, ◌+◌, ◌/◌, ◌%◌, List, [], ◌∷�
 use Rattle.refusal.specs.Fixed.{ESCAPE-STATE, DEAD-STATE}
 use Rattle.refusal.specs.Lists.{pick}
 use Rattle.program_io.specs.Decimal.{number}
+use Rattle.tableshow.specs.declared.rows.Kind.{Kind}
+use Rattle.tableshow.specs.declared.rows.Kind.TheVariants.{Target, Continuation}
 use Rattle.tableshow.specs.Joined.{joined, if_less, if_same}
 use Rattle.tableshow.specs.Texts.{space, tab, newline, return_sign, hex, code_point, dots, arrow, escape_target, dead_target, to_continuation}
 
@@ -41,8 +43,7 @@ point x = if_less x 128 (symbol x) (joined (code_point ∷ front (x / 65536) ∷
 abbrev pub range : ℕ → ℕ → List ℕ
 range low high = if_same low high (point low) (joined (point low ∷ dots ∷ point high ∷ []))
 
--- where an edge leads: kind 0 is a target, the escape and the dead state by name, and kind 1 a continuation
-abbrev pub target : ℕ → ℕ → List ℕ
-target kind t =
-    if_same kind 1 (joined (to_continuation ∷ number t ∷ []))
-    (if_same t ESCAPE-STATE escape_target (if_same t DEAD-STATE dead_target (joined (arrow ∷ number t ∷ []))))
+-- where an edge leads: to a target, the escape and the dead state by name, or to a continuation
+abbrev pub target : Kind → ℕ → List ℕ
+target Target t = if_same t ESCAPE-STATE escape_target (if_same t DEAD-STATE dead_target (joined (arrow ∷ number t ∷ [])))
+target Continuation t = joined (to_continuation ∷ number t ∷ [])

@@ -8,6 +8,7 @@ use Rattle.look_targets.specs.Targets.{eof_target}
 use Rattle.look_accepts.specs.Accept.{accept_of}
 use Rattle.look_accepts.specs.Record.{record_of}
 use Rattle.look_continuations.specs.Continuation.{eof_continuation}
+use Rattle.tableshow.specs.declared.rows.Kind.TheVariants.{Target, Continuation}
 use Rattle.tableshow.specs.Joined.{joined, if_less, if_same}
 use Rattle.program_io.specs.Decimal.{number}
 use Rattle.tableshow.specs.Names.{symbol, range, target}
@@ -67,10 +68,10 @@ run_line w p = run_text (get_or w p 0) (get_or w (p + 1) 0) (get_or w (p + 2) 0)
 -- What the end of the input leads to
 
 abbrev pub end_target : ℕ → List ℕ
-end_target x = if_same x DEAD-STATE [] (joined (t.end_label ∷ target 0 x ∷ t.end_line ∷ []))
+end_target x = if_same x DEAD-STATE [] (joined (t.end_label ∷ target Target x ∷ t.end_line ∷ []))
 
 abbrev pub end_continuation : ℕ → List ℕ
-end_continuation x = if_same x NONE [] (joined (t.end_label ∷ target 1 x ∷ t.end_line ∷ []))
+end_continuation x = if_same x NONE [] (joined (t.end_label ∷ target Continuation x ∷ t.end_line ∷ []))
 
 abbrev pub rest_text : List ℕ → ℕ → List ℕ
 rest_text w s =

@@ -6,6 +6,8 @@ use Rattle.refusal.specs.Lists.{pick}
 use Rattle.refusal.specs.Header.{WIDE-START, ESCAPES-START}
 use Rattle.room_find.specs.Room.{listed_at, state_at, follow}
 use Rattle.look_targets.specs.Targets.{ascii_target}
+use Rattle.tableshow.specs.declared.rows.Kind.{Kind}
+use Rattle.tableshow.specs.declared.rows.Kind.TheVariants.{Target, Continuation}
 use Rattle.tableshow.specs.Joined.{joined, if_same}
 use Rattle.program_io.specs.Decimal.{number}
 use Rattle.tableshow.specs.Names.{range, target}
@@ -21,7 +23,7 @@ after p = pick (ltb p 3) (p + 1) 1
 abbrev pub ending : ℕ → List ℕ
 ending p = if_same p 0 no_items end_line
 
-abbrev pub item : ℕ → ℕ → ℕ → ℕ → ℕ → List ℕ
+abbrev pub item : ℕ → ℕ → ℕ → Kind → ℕ → List ℕ
 item p low high kind t = joined (joined (gap p ∷ range low high ∷ []) ∷ target kind t ∷ [])
 
 -- The ascii row
@@ -38,7 +40,7 @@ target_on w s x = pick (ltb x 128) (or_else DEAD-STATE (ascii_target w s x)) DEA
 
 -- the range from `low` to x ends where the target t is not that of the next symbol, and is left out where t is dead
 unfoldable pub edge : ℕ → ℕ → ℕ → ℕ → ℕ → List ℕ
-edge t next low x p = if_same t next [] (if_same t DEAD-STATE [] (item p low x 0 t))
+edge t next low x p = if_same t next [] (if_same t DEAD-STATE [] (item p low x Target t))
 
 -- where the next range starts, and the items on the line
 unfoldable pub low_after : ℕ → ℕ → ℕ → ℕ → ℕ
@@ -65,14 +67,14 @@ ascii_from w s (suc left) x low p = edge_at w s low x p ++ ascii_from w s left (
 abbrev pub ascii_text : List ℕ → ℕ → List ℕ
 ascii_text w s = joined (ascii_label ∷ ascii_from w s 128 0 0 0 ∷ [])
 
--- Rows of ranges: each is low, high and a target (kind 0) or a continuation (kind 1)
+-- Rows of ranges: each is low, high and a target or a continuation
 
-unfoldable pub ranges_from : ℕ → List ℕ → ℕ → ℕ → ℕ → List ℕ
+unfoldable pub ranges_from : Kind → List ℕ → ℕ → ℕ → ℕ → List ℕ
 ranges_from kind w zero at p = ending p
 ranges_from kind w (suc n) at p = item p (get_or w at 0) (get_or w (at + 1) 0) kind (get_or w (at + 2) 0) ++ ranges_from kind w n (at + 3) (after p)
 
 -- the row whose length stands at a place; nothing where it has no range
-abbrev pub row_text : List ℕ → ℕ → List ℕ → ℕ → List ℕ
+abbrev pub row_text : List ℕ → Kind → List ℕ → ℕ → List ℕ
 row_text label kind w at = if_same (get_or w at 0) 0 [] (joined (label ∷ ranges_from kind w (get_or w at 0) (at + 1) 0 ∷ []))
 
 -- Where the lookups find record i of section k, whose records vary in length; 0 where they find none
@@ -93,11 +95,11 @@ abbrev pub shared_text : List ℕ → ℕ → ℕ → List ℕ
 shared_text w at t = if_same (get_or w at 0) 0 [] (joined (wide_as ∷ number t ∷ end_line ∷ []))
 
 abbrev pub wide_with : List ℕ → ℕ → ℕ → ℕ → List ℕ
-wide_with w s at t = if_same t s (row_text wide_label 0 w at) (shared_text w at t)
+wide_with w s at t = if_same t s (row_text wide_label Target w at) (shared_text w at t)
 
 abbrev pub wide_text : List ℕ → ℕ → List ℕ
 wide_text w s = wide_with w s (place_of w WIDE-START (wide_row w s)) (first_with w (wide_row w s) s 0)
 
 -- "escape rows: EOF continuation or NONE, length, then low, high, continuation"
 abbrev pub escapes_text : List ℕ → ℕ → List ℕ
-escapes_text w s = row_text escapes_label 1 w (place_of w ESCAPES-START s + 1)
+escapes_text w s = row_text escapes_label Continuation w (place_of w ESCAPES-START s + 1)

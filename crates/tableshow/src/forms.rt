@@ -1,6 +1,6 @@
 // The forms of a page's texts, one behind the other, each named by the place of its first byte and ended by a zero. In the forms of a symbol a
 // byte of 128 or more stands for the symbol itself or one of its hexadecimal digits; in those of a line it stands for a number, a symbol or a
-// range (specs/Forms).
+// range (specs/Forms). A place is a number and no member of an enum, since the proofs of the texts go by it: that it stands for one text is shown for each.
 ghost use Rattle.std.specs.Prelude.{◌≡◌, get_or};
 ghost use Rattle.tableshow.specs.Forms.{forms};
 

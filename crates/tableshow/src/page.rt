@@ -21,29 +21,19 @@ use refusal::{NONE, RUNS_START};
 use room_find::Missing;
 use rule_words::word_at;
 
-fn record_form(flag: u32, actions: u32) -> usize
-    ensures { (k rule : ℕ) → formed result k rule actions ≡ record_line k rule flag actions }
+fn record_form(flag: bool, actions: u32) -> usize
+    ensures { (k rule : ℕ) → formed result k rule actions ≡ record_line k rule (pick flag 1 0) actions }
 {
     if actions == 0 {
-        if flag == 0 {
-            return forms::ACCEPT;
+        if flag {
+            return forms::ACCEPT_END;
         }
-        return forms::ACCEPT_END;
+        return forms::ACCEPT;
     }
-    if flag == 0 {
-        return forms::ACCEPT_ACTIONS;
-    }
-    forms::ACCEPT_END_ACTIONS
-}
-
-// A flag as a number.
-fn bit(flag: bool) -> u32
-    ensures { result ≡ pick flag 1 0 }
-{
     if flag {
-        return 1;
+        return forms::ACCEPT_END_ACTIONS;
     }
-    0
+    forms::ACCEPT_ACTIONS
 }
 
 fn rule_of(found: Result<AcceptRecord, Missing>) -> u32
@@ -68,9 +58,8 @@ fn put_said(accept: u32, found: Result<AcceptRecord, Missing>, page: &mut Page)
     ensures { Wrote (said_line accept (recorded.said found)) page.old page.new }
 {
     let rule = rule_of(found);
-    let flag = bit(flag_of(found));
     let actions = actions_of(found);
-    let form = record_form(flag, actions);
+    let form = record_form(flag_of(found), actions);
     put_form(form, accept as u64, rule as u64, actions as u64, page)
 }
 

@@ -47,22 +47,28 @@ fn ending_form(items: u32) -> usize
     forms::END_LINE
 }
 
-// Where an edge leads: a target (kind 0) or a continuation (kind 1).
-fn target_form(kind: u32, to: u32) -> usize
+// What an edge leads to.
+#[derive(Clone, Copy)]
+pub(crate) enum Kind {
+    Target,
+    Continuation,
+}
+
+fn target_form(kind: Kind, to: u32) -> usize
     ensures { formed result to 0 0 ≡ target kind to }
 {
-    if kind == 1 {
-        return forms::TO_CONTINUATION;
-    }
-    match to {
-        ESCAPE => forms::TO_ESCAPE,
-        DEAD => forms::TO_DEAD,
-        _ => forms::TO,
+    match kind {
+        Kind::Continuation => forms::TO_CONTINUATION,
+        Kind::Target => match to {
+            ESCAPE => forms::TO_ESCAPE,
+            DEAD => forms::TO_DEAD,
+            _ => forms::TO,
+        },
     }
 }
 
 // A range, and where it leads.
-fn put_item(items: u32, low: u32, high: u32, kind: u32, to: u32, page: &mut Page)
+fn put_item(items: u32, low: u32, high: u32, kind: Kind, to: u32, page: &mut Page)
     ensures { Wrote (item items low high kind to) page.old page.new }
 {
     put_form(gap_form(items), low as u64, high as u64, 0, page);
@@ -96,7 +102,7 @@ fn put_edge(to: u32, next: u32, low: u32, symbol: u32, items: u32, page: &mut Pa
     if to == DEAD {
         return;
     }
-    put_item(items, low, symbol, 0, to, page)
+    put_item(items, low, symbol, Kind::Target, to, page)
 }
 
 fn low_after(to: u32, next: u32, low: u32, symbol: u32) -> u32
@@ -146,7 +152,7 @@ pub(crate) fn put_ascii(room: &[u32], state: u16, page: &mut Page)
 }
 
 // So many ranges behind the number at `at`.
-fn put_ranges(kind: u32, room: &[u32], count: u32, at: usize, page: &mut Page)
+fn put_ranges(kind: Kind, room: &[u32], count: u32, at: usize, page: &mut Page)
     requires { at ≤ 2 ^ 62 }
     ensures { Wrote (ranges_from kind room.now count (at + 1) 0) page.old page.new }
 {
@@ -163,7 +169,7 @@ fn put_ranges(kind: u32, room: &[u32], count: u32, at: usize, page: &mut Page)
 }
 
 // The row whose length stands at a place.
-fn put_row(label: usize, kind: u32, room: &[u32], at: usize, page: &mut Page)
+fn put_row(label: usize, kind: Kind, room: &[u32], at: usize, page: &mut Page)
     requires { at ≤ 2 ^ 62 }
     ensures { Wrote (row_text (formed label 0 0 0) kind room.now at) page.old page.new }
 {
@@ -212,7 +218,7 @@ fn put_wide_at(room: &[u32], state: u16, at: usize, first: u16, page: &mut Page)
     ensures { Wrote (wide_with room.now state at first) page.old page.new }
 {
     if first == state {
-        return put_row(forms::WIDE, 0, room, at, page);
+        return put_row(forms::WIDE, Kind::Target, room, at, page);
     }
     if word_at(room, at) == 0 {
         return;
@@ -235,5 +241,5 @@ pub(crate) fn put_escapes(room: &[u32], state: u16, page: &mut Page)
     ensures { Wrote (escapes_text room.now state) page.old page.new }
 {
     let at = place_of(room, ESCAPES_START, state as u32);
-    put_row(forms::ESCAPES, 1, room, at + 1, page)
+    put_row(forms::ESCAPES, Kind::Continuation, room, at + 1, page)
 }

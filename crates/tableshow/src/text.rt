@@ -47,7 +47,7 @@ fn glyph_of(byte: u8, x: u64) -> u8
     hex_digit(digit_in(byte, x))
 }
 
-// A symbol by its form.
+// A symbol by its form. (A zero ends a form, so the loop goes over no range.)
 fn put_drawn(form: usize, x: u64, page: &mut Page)
     ensures { Wrote (drawn form x) page.old page.new }
 {
@@ -178,7 +178,7 @@ fn put_piece(byte: u8, a: u64, b: u64, c: u64, page: &mut Page)
     put_range(low_in(byte, a, b, c), high_in(byte, b, c), page)
 }
 
-// A line, or a part of one, by its form and three numbers.
+// A line, or a part of one, by its form and three numbers. (The zero ends it here too.)
 pub(crate) fn put_form(form: usize, a: u64, b: u64, c: u64, page: &mut Page)
     ensures { Wrote (formed form a b c) page.old page.new }
 {

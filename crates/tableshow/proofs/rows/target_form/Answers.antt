@@ -4,9 +4,9 @@ use Rattle.tableshow.specs.Forms.{formed, filled, forms, piece, number_in, exit_
 use Rattle.tableshow.proofs.Filling.{choices}
 use Rattle.tableshow.proofs.rows.target_form.Goals as goal
 
-pub returns-then-kind-eq1 : goal.returns-then-kind-eq1
+pub returns-in-Continuation : goal.returns-in-Continuation
 unfolding formed filled forms joined if_less piece number_in exit_in low_in high_in
-returns-then-kind-eq1 c = search choices
+returns-in-Continuation c = search choices
 
 pub returns-in-65534 : goal.returns-in-65534
 unfolding formed filled forms joined if_less piece number_in exit_in low_in high_in
