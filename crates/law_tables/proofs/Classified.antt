@@ -15,6 +15,7 @@ use Rattle.run_ranges.specs.declared.AsciiRange.{AsciiRange}
 use Rattle.run_ranges.specs.Ranges.{exits_at, ranges_from, up_to_four}
 use Rattle.run_ranges.proofs.Maximal.{ranges_ordered}
 use Rattle.run_shape.specs.declared.RunWords.{RunWords}
+use Rattle.run_shape.specs.Words.{words_of_run}
 use Rattle.run_shape.specs.Shape.{Shape, none, any, until, ranges, held}
 use Rattle.run_shape.specs.Classify.{exits_from, by_ranges, by_exits, classification}
 use Rattle.word_reader.specs.Records.{run_at}
@@ -64,7 +65,7 @@ classification_fits state row h = cases (eqb (length es) 0) refl (leb (length es
 
 -- the words that are written for a run are those of its shape: one, or three of which the first has kind 5
 abbrev written : Shape → RunWords
-written s = words.held_words (held s)
+written s = words_of_run (held s)
 
 abbrev One : Shape → Type 0
 One s = ((written s).length ≡ 1) × (run_words s ≡ (written s).first ∷ []) × ((written s).first % 256 < 5)

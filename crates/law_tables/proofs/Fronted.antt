@@ -12,12 +12,13 @@ use borrow.Author.Tests.{eqb-true, eqb-false, le-leb}
 use Rattle.refusal.specs.Said.{FIELD}
 use Rattle.refusal.specs.Lists.{pick, every, each}
 use Rattle.run_ranges.specs.Ranges.{ranges_of_run}
-use Rattle.run_shape.specs.declared.AsciiRun.TheVariants.{Ranges}
-use Rattle.run_shape.specs.declared.Run.{Run}
+use Rattle.run_shape.specs.declared.AsciiRun.{AsciiRun}
+use Rattle.run_shape.specs.declared.AsciiRun.TheVariants as runs
+use Rattle.run_ranges.specs.declared.AsciiRanges.{AsciiRanges}
 use Rattle.run_shape.specs.Shape as shape
-use Rattle.run_shape.specs.Shape.{Shape, none, until, held, Got, run, refused}
+use Rattle.run_shape.specs.Shape.{Shape, none, until, held, Got, refused}
 use Rattle.run_shape.specs.Words.{is_zero, is_ascii, or_field, short_run, kind_of, bytes_of, ranges_run, read_at, size_of}
-use Rattle.std.specs.Prelude.{Ok}
+use Rattle.std.specs.Prelude.{Option, Some, None, Ok}
 use Rattle.word_reader.specs.Parse.{short, block, many, section, both}
 use Rattle.word_reader.specs.Records.{any, target, start, after_run, mode_at, state_at, run_at, ascii_at, wide_at, accept_at, escape_at}
 use Rattle.word_reader.specs.Records.{context_at, good_context, triple_at, range_at, config_at, continuation_at}
@@ -38,10 +39,10 @@ use Rattle.law_tables.proofs.Ends.{paired, of_fields, of_many, of_section, pair,
 
 -- what is read at any place from the same words: a run of so many words, or FIELD at the place
 pub data Sorts (n : ℕ) (got : ℕ → Got) : Type 0 where
-  good : (q : Run) → size_of q.kind ≡ n → ((at : ℕ) → got at ≡ run q) → Sorts n got
+  good : (q : AsciiRun) → size_of q ≡ n → ((at : ℕ) → got at ≡ Ok q) → Sorts n got
   bad : ((at : ℕ) → got at ≡ refused FIELD at) → Sorts n got
 
-tried : {n : ℕ} (b : Bool) (q : Run) → size_of q.kind ≡ n → Sorts n (λ at. or_field at b q)
+tried : {n : ℕ} (b : Bool) (q : AsciiRun) → size_of q ≡ n → Sorts n (λ at. or_field at b q)
 unfolding or_field
 tried true q e = good q e (λ at. refl)
 tried false q e = bad (λ at. refl)
@@ -50,7 +51,7 @@ either : {n : ℕ} {f g : ℕ → Got} (b : Bool) → Sorts n f → Sorts n g �
 either true s t = s
 either false s t = t
 
-until_size : (es : List ℕ) → size_of (held (until es)).kind ≡ 1
+until_size : (es : List ℕ) → size_of (held (until es)) ≡ 1
 unfolding held
 until_size [] = refl
 until_size (a ∷ []) = refl
@@ -67,11 +68,12 @@ short_sorts k bytes =
     (tried (every is_ascii (take (k - 1) bytes) && every is_zero (drop (k - 1) bytes)) (held (until (take (k - 1) bytes))) (until_size (take (k - 1) bytes)))
     (bad (λ at. refl))))
 
+ranged : (r : Option AsciiRanges) → Sorts 3 (λ at. ranges_run at r)
+ranged (Some r) = good (runs.Ranges r) refl (λ at. refl)
+ranged None = bad (λ at. refl)
+
 long_sorts : (x y z : ℕ) → Sorts 3 (λ at. ranges_run at (ranges_of_run x (record { first = y; second = z })))
-unfolding ranges_run
-long_sorts x y z =
-    let r = ranges_of_run x (record { first = y; second = z }) in
-    either (eqb r.count 0) (bad (λ at. refl)) (good (record { kind = Ranges; ranges = r }) refl (λ at. refl))
+long_sorts x y z = ranged (ranges_of_run x (record { first = y; second = z }))
 
 sorted : (x : ℕ) (r : List ℕ) {got : ℕ → Got} → Sorts (length (x ∷ r)) got
     → ((w : List ℕ) (at : ℕ) (post : List ℕ) → At w at (x ∷ (r ++ post)) → read_at w at ≡ got at) → ReadsAt run_at (x ∷ r) ⊎ Fails run_at (x ∷ r)

@@ -12,15 +12,16 @@ use borrow.Author.Tests.{lt-ltb, le-ltb, le-leb, lt-leb, ltb-true, leb-true, eqb
 use Rattle.refusal.specs.Said.{FIELD, SHORT}
 use Rattle.refusal.specs.Lists.{pick, every}
 use Rattle.run_ranges.specs.declared.AsciiRange.{AsciiRange}
-use Rattle.run_ranges.specs.Ranges.{range, no_ranges, up_to_four, follows, ordered, is_zero, unused, good_ranges, checked, range_in, unpacked, half_of, ranges_of_run}
+use Rattle.run_ranges.specs.Ranges.{range, up_to_four, follows, ordered, is_zero, unused, good_ranges, checked, range_in, unpacked, half_of, ranges_of_run}
 use Rattle.run_shape.specs.declared.AsciiRun.{AsciiRun}
-use Rattle.run_shape.specs.declared.AsciiRun.TheVariants.{None, Any, Until1, Until2, Until3, Ranges}
-use Rattle.run_shape.specs.declared.Run.{Run}
+use Rattle.run_shape.specs.declared.AsciiRun.TheVariants as runs
 use Rattle.run_shape.specs.declared.RunWords.{RunWords}
-use Rattle.run_shape.specs.Shape.{Shape, none, any, until, ranges, shape_of, shape, plain, held, Got, run, refused}
+use Rattle.run_shape.specs.Shape.{Shape, none, any, until, ranges, shape, held, Got, refused}
 use Rattle.run_shape.specs.Words.{or_field, short_run, kind_of, bytes_of, ranges_run, read_at, size_of, words_of_run}
 use Rattle.refusal.proofs.Lists.{and_split}
-use Rattle.std.specs.Prelude.{Ok}
+use Rattle.std.specs.Prelude.{Option, Some, None, Ok, Err}
+use Rattle.refusal.specs.declared.Refusal.{Refusal}
+use Rattle.run_ranges.specs.declared.AsciiRanges.{AsciiRanges}
 use Rattle.word_reader.specs.Records.{after_run, run_at}
 use Rattle.law_tables.specs.Table.{packed, bytes, run_words, All, InOrder, RunFields}
 use Rattle.law_tables.specs.Whole.{Fit}
@@ -89,7 +90,7 @@ short_reads {x = x} k a b c p e hk ha hb =
     read_short p (omega arith) ∙ (rw (f, bytes_are x k a b c e (omega arith) ha hb))
 
 until_reads : (es : List ℕ) {w : List ℕ} (post : List ℕ) {at : ℕ} → 1 ≤ length es → length es ≤ 3 → All (λ e. e < 128) es
-    → At w at (run_words (until es) ++ post) → read_at w at ≡ run (held (until es))
+    → At w at (run_words (until es) ++ post) → read_at w at ≡ Ok (held (until es))
 unfolding run_words packed All short_run or_field every held
 until_reads [] post h l v p = absurd (omega arith)
 until_reads (a ∷ []) post h l v p =
@@ -152,7 +153,7 @@ places r s t u = r ∷ s ∷ t ∷ u ∷ []
 
 module _ (c : ℕ) (r s t u : AsciiRange) (a : All Small (places r s t u)) (o : good_ranges c (places r s t u) ≡ true) where
   ranges_are : (x y z : ℕ) → x ≡ 5 + 256 * c → c ≤ 4 → y ≡ pair_of r s → z ≡ pair_of t u
-      → ranges_of_run x (record { first = y; second = z }) ≡ record { ranges = places r s t u; count = c }
+      → ranges_of_run x (record { first = y; second = z }) ≡ Some (record { ranges = places r s t u; count = c })
   unfolding All ranges_of_run checked
   ranges_are x y z ex hc ey ez =
       let k : x % 256 ≡ 5 = omega arith in
@@ -170,12 +171,11 @@ module _ (c : ℕ) (r s t u : AsciiRange) (a : All Small (places r s t u)) (o : 
       )
 
   long_reads : {w post : List ℕ} {at x y z : ℕ} → At w at (x ∷ y ∷ z ∷ post) → x ≡ 5 + 256 * c → 1 ≤ c → c ≤ 4 → y ≡ pair_of r s → z ≡ pair_of t u
-      → read_at w at ≡ run (record { kind = Ranges; ranges = record { ranges = places r s t u; count = c } })
-  unfolding ranges_run
-  long_reads {x = x} {y = y} {z = z} p ex h1 hc ey ez = read_long p (omega arith) ∙ (rw (ranges_are x y z ex hc ey ez, ne_eqb c 0 (omega arith)))
+      → read_at w at ≡ Ok (runs.Ranges (record { ranges = places r s t u; count = c }))
+  long_reads {x = x} {y = y} {z = z} p ex h1 hc ey ez = read_long p (omega arith) ∙ (rw (ranges_are x y z ex hc ey ez))
 
 ranges_reads : (rs : List AsciiRange) {w : List ℕ} (post : List ℕ) {at : ℕ} → 1 ≤ length rs → length rs ≤ 4 → InOrder 0 rs
-    → At w at (run_words (ranges rs) ++ post) → read_at w at ≡ run (held (ranges rs))
+    → At w at (run_words (ranges rs) ++ post) → read_at w at ≡ Ok (held (ranges rs))
 unfolding run_words packed bytes All held up_to_four good_ranges unused
 ranges_reads [] post h l v p = absurd (omega arith)
 ranges_reads (a ∷ []) post h l v p =
@@ -196,7 +196,7 @@ ranges_reads (a ∷ c ∷ d ∷ e ∷ []) post h l v p =
 ranges_reads (a ∷ c ∷ d ∷ e ∷ f ∷ rs) post h l v p = absurd (omega arith)
 
 -- the words of a shape whose fields are good are read as that shape
-pub shape_reads : (s : Shape) {w : List ℕ} (post : List ℕ) {at : ℕ} → RunFields s → At w at (run_words s ++ post) → read_at w at ≡ run (held s)
+pub shape_reads : (s : Shape) {w : List ℕ} (post : List ℕ) {at : ℕ} → RunFields s → At w at (run_words s ++ post) → read_at w at ≡ Ok (held s)
 unfolding run_words RunFields held short_run or_field every
 shape_reads none post v p = short_reads 0 0 0 0 p refl (omega arith) (omega arith) (omega arith)
 shape_reads any post v p = short_reads 1 0 0 0 p refl (omega arith) (omega arith) (omega arith)
@@ -225,21 +225,21 @@ held-shape (ranges (a ∷ b ∷ c ∷ d ∷ e ∷ rs)) v = absurd (omega (arith,
 abbrev pub listing : RunWords → List ℕ
 listing r = take r.length (r.first ∷ r.second ∷ r.third ∷ [])
 
-pub record RunRead (q : Run) (words : List ℕ) : Type 0 where
+pub record RunRead (q : AsciiRun) (words : List ℕ) : Type 0 where
   pub allowed : RunFields (shape q)
   pub opened : run_words (shape q) ≡ words
-  pub written : run_words (shape q) ≡ listing (words_of_run q.kind q.ranges)
+  pub written : run_words (shape q) ≡ listing (words_of_run q)
 
 -- the test held, and the run is the one behind it
-picked : (at : ℕ) (b : Bool) (r : Run) {q : Run} → pick b (run r) (refused FIELD at) ≡ run q → (b ≡ true) × (r ≡ q)
+picked : (at : ℕ) (b : Bool) (r : AsciiRun) {q : AsciiRun} → pick b (Ok r) (refused FIELD at) ≡ Ok q → (b ≡ true) × (r ≡ q)
 picked at true r e = (refl, cc)
 picked at false r e = let z : ◌≡◌ {A = ℕ} 0 1 = cc in absurd (omega arith)
 
-never : {q : Run} {n p : ℕ} → refused n p ≡ run q → ⊥
+never : {q : AsciiRun} {n p : ℕ} → refused n p ≡ Ok q → ⊥
 never e = let z : ◌≡◌ {A = ℕ} 0 1 = cc in omega arith
 
-carried : {r q : Run} {l m : List ℕ} → r ≡ q → l ≡ m → RunRead r l → RunRead q m
-carried {r} {m = m} e f h = subst (λ (q : Run). RunRead q m) e (subst (RunRead r) f h)
+carried : {r q : AsciiRun} {l m : List ℕ} → r ≡ q → l ≡ m → RunRead r l → RunRead q m
+carried {r} {m = m} e f h = subst (λ (q : AsciiRun). RunRead q m) e (subst (RunRead r) f h)
 
 zeros : (b : ℕ) (t : Bool) → (eqb b 0 && t) ≡ true → (b ≡ 0) × (t ≡ true)
 zeros b t e = let s = and_split (eqb b 0) t e in (eqb-true b 0 s.0, s.1)
@@ -254,21 +254,21 @@ no_bytes k a b c e =
 exits : (b : ℕ) (t : Bool) → (ltb b 128 && t) ≡ true → (b < 128) × (t ≡ true)
 exits b t e = let s = and_split (ltb b 128) t e in (ltb-true b 128 s.0, s.1)
 
-no_kind : (at k : ℕ) (l : List ℕ) {q : Run} → 4 < k → short_run at k l ≡ run q → ⊥
+no_kind : (at k : ℕ) (l : List ℕ) {q : AsciiRun} → 4 < k → short_run at k l ≡ Ok q → ⊥
 unfolding short_run
 no_kind at k l h e = never (rw (ne_eqb k 0 (omega arith), ne_eqb k 1 (omega arith), lt-leb k 4 h) at e)
 
 -- a run of one word, by its kind and bytes
-short-made : (at k a b c : ℕ) {q : Run} → short_run at k (a ∷ b ∷ c ∷ []) ≡ run q → RunRead q ((k + 256 * (a + 256 * (b + 256 * c))) ∷ [])
+short-made : (at k a b c : ℕ) {q : AsciiRun} → short_run at k (a ∷ b ∷ c ∷ []) ≡ Ok q → RunRead q ((k + 256 * (a + 256 * (b + 256 * c))) ∷ [])
 unfolding short_run or_field every held run_words packed RunFields All
 short-made at zero a b c e =
-    let p = picked at (eqb a 0 && (eqb b 0 && (eqb c 0 && true))) (plain None) e in
+    let p = picked at (eqb a 0 && (eqb b 0 && (eqb c 0 && true))) runs.None e in
     carried p.1 (no_bytes 0 a b c p.0) (record { allowed = tt; opened = refl; written = refl })
 short-made at (suc zero) a b c e =
-    let p = picked at (eqb a 0 && (eqb b 0 && (eqb c 0 && true))) (plain Any) e in
+    let p = picked at (eqb a 0 && (eqb b 0 && (eqb c 0 && true))) runs.Any e in
     carried p.1 (no_bytes 1 a b c p.0) (record { allowed = tt; opened = refl; written = refl })
 short-made at (suc (suc zero)) a b c e =
-    let p = picked at ((ltb a 128 && true) && (eqb b 0 && (eqb c 0 && true))) (plain (Until1 a)) e in
+    let p = picked at ((ltb a 128 && true) && (eqb b 0 && (eqb c 0 && true))) (runs.Until1 a) e in
     let s = and_split (ltb a 128 && true) (eqb b 0 && (eqb c 0 && true)) p.0 in
     let x = exits a true s.0 in
     let y = zeros b _ s.1 in
@@ -276,7 +276,7 @@ short-made at (suc (suc zero)) a b c e =
     carried p.1 (list1 (omega (arith, y.0, z.0)))
     (record { allowed = (omega arith, omega arith, (x.0, tt)); opened = refl; written = list1 (omega arith) })
 short-made at (suc (suc (suc zero))) a b c e =
-    let p = picked at ((ltb a 128 && (ltb b 128 && true)) && (eqb c 0 && true)) (plain (Until2 a b)) e in
+    let p = picked at ((ltb a 128 && (ltb b 128 && true)) && (eqb c 0 && true)) (runs.Until2 a b) e in
     let s = and_split (ltb a 128 && (ltb b 128 && true)) (eqb c 0 && true) p.0 in
     let x = exits a _ s.0 in
     let y = exits b true x.1 in
@@ -284,7 +284,7 @@ short-made at (suc (suc (suc zero))) a b c e =
     carried p.1 (list1 (omega (arith, z.0)))
     (record { allowed = (omega arith, omega arith, (x.0, (y.0, tt))); opened = refl; written = list1 (omega arith) })
 short-made at (suc (suc (suc (suc zero)))) a b c e =
-    let p = picked at ((ltb a 128 && (ltb b 128 && (ltb c 128 && true))) && true) (plain (Until3 a b c)) e in
+    let p = picked at ((ltb a 128 && (ltb b 128 && (ltb c 128 && true))) && true) (runs.Until3 a b c) e in
     let s = and_split (ltb a 128 && (ltb b 128 && (ltb c 128 && true))) true p.0 in
     let x = exits a _ s.0 in
     let y = exits b _ x.1 in
@@ -353,38 +353,37 @@ half-word y h =
 
 -- four places with a good count
 places-made : (x y z : ℕ) → kind_of x ≡ 5 → x ≤ 65535 → y < 4294967296 → z < 4294967296 → Good (x / 256) (unpacked (record { first = y; second = z }))
-    → RunRead (record { kind = Ranges; ranges = record { ranges = unpacked (record { first = y; second = z }); count = x / 256 } }) (x ∷ y ∷ z ∷ [])
+    → RunRead (runs.Ranges (record { ranges = unpacked (record { first = y; second = z }); count = x / 256 })) (x ∷ y ∷ z ∷ [])
 unfolding RunFields
 places-made x y z k l hy hz g =
     let n = length-take-le (x / 256) (unpacked (record { first = y; second = z })) g.most in
     let e = places_words (x / 256) (range_in (y % 65536)) (range_in (y / 65536)) (range_in (z % 65536)) (range_in (z / 65536)) g in
     record { allowed = (omega arith, omega arith, g.order); opened = e ∙ list3 (omega arith) (half-word y hy) (half-word z hz); written = e }
 
-ranges_made : (at x y z : ℕ) {q : Run} → y < 4294967296 → z < 4294967296 → ranges_run at (ranges_of_run x (record { first = y; second = z })) ≡ run q
+ranges_made : (at x y z : ℕ) {q : AsciiRun} → y < 4294967296 → z < 4294967296 → ranges_run at (ranges_of_run x (record { first = y; second = z })) ≡ Ok q
     → RunRead q (x ∷ y ∷ z ∷ [])
-unfolding ranges_run ranges_of_run checked
+unfolding ranges_of_run checked
 ranges_made at x y z {q} hy hz e = go (eqb (x % 256) 5 && leb x 65535) refl (good_ranges (x / 256) (unpacked (record { first = y; second = z }))) refl e
   where
     go : (b : Bool) → (eqb (x % 256) 5 && leb x 65535) ≡ b → (d : Bool) → good_ranges (x / 256) (unpacked (record { first = y; second = z })) ≡ d
-        → ranges_run at (pick b (pick d (record { ranges = unpacked (record { first = y; second = z }); count = x / 256 }) no_ranges) no_ranges) ≡ run q
+        → ranges_run at (pick b (pick d (Some (record { ranges = unpacked (record { first = y; second = z }); count = x / 256 })) None) None) ≡ Ok q
         → RunRead q (x ∷ y ∷ z ∷ [])
     go false u d v e = absurd (never e)
     go true u false v e = absurd (never e)
     go true u true v e =
         let s = and_split (eqb (x % 256) 5) (leb x 65535) u in
         let g = good_ranges_lem (x / 256) (unpacked (record { first = y; second = z })) v in
-        let f = rw (ne_eqb (x / 256) 0 (omega arith)) at e in
         carried (cc) refl (places-made x y z (eqb-true _ _ s.0) (leb-true _ _ s.1) hy hz g)
 
 -- A run that is read at a place stands there
 
-pub record Opens (q : Run) (rest : List ℕ) : Type 0 where
+pub record Opens (q : AsciiRun) (rest : List ℕ) : Type 0 where
   pub words : List ℕ
   pub post : List ℕ
   pub reads : RunRead q words
   pub whole : rest ≡ words ++ post
 
-pub run_opens : (w : List ℕ) (at : ℕ) (rest : List ℕ) {q : Run} → Fit w → At w at rest → read_at w at ≡ run q → Opens q rest
+pub run_opens : (w : List ℕ) (at : ℕ) (rest : List ℕ) {q : AsciiRun} → Fit w → At w at rest → read_at w at ≡ Ok q → Opens q rest
 run_opens w at [] f p e = absurd (never (sym (read_nothing p) ∙ e))
 run_opens w at (x ∷ post) {q} f p e = go (eqb (kind_of x) 5) refl post p
   where
@@ -403,17 +402,14 @@ run_opens w at (x ∷ post) {q} f p e = go (eqb (kind_of x) 5) refl post p
 
 -- The codec of a run
 
-pub size_words : (q : Run) → size_of q.kind ≡ length (run_words (shape q))
+pub size_words : (q : AsciiRun) → size_of q ≡ length (run_words (shape q))
 unfolding run_words
-size_words q = go q.kind
-  where
-    go : (k : AsciiRun) → size_of k ≡ length (run_words (shape_of k q.ranges))
-    go None = refl
-    go Any = refl
-    go (Until1 a) = refl
-    go (Until2 a b) = refl
-    go (Until3 a b c) = refl
-    go Ranges = refl
+size_words runs.None = refl
+size_words runs.Any = refl
+size_words (runs.Until1 a) = refl
+size_words (runs.Until2 a b) = refl
+size_words (runs.Until3 a b c) = refl
+size_words (runs.Ranges r) = refl
 
 pub run_codec : Codec Shape run_at run_words RunFields
 run_codec = record { complete = done; sound = λ w at p rest f a e. found w at p rest f a (read_at w at) refl e }
@@ -424,10 +420,10 @@ run_codec = record { complete = done; sound = λ w at p rest f a e. found w at p
 
     found : (w : List ℕ) (at p : ℕ) (rest : List ℕ) → Fit w → At w at rest → (g : Got) → read_at w at ≡ g → after_run at g ≡ Ok p
         → Split Shape run_words RunFields rest at p
-    found w at p rest f a (refused n x) u e = let z : ◌≡◌ {A = ℕ} 0 1 = cc in absurd (omega arith)
-    found w at p rest f a (run q) u e =
+    found w at p rest f a (Err n) u e = let z : ◌≡◌ {A = ℕ} 0 1 = cc in absurd (omega arith)
+    found w at p rest f a (Ok q) u e =
         let o = run_opens w at rest f a u in
-        let n : at + size_of q.kind ≡ p = cc in
+        let n : at + size_of q ≡ p = cc in
         record {
           item = shape q;
           post = o.post;
@@ -439,7 +435,7 @@ run_codec = record { complete = done; sound = λ w at p rest f a e. found w at p
 -- Round trips
 
 -- reading the words of a shape gives a run of that shape
-pub read_shape : (s : Shape) {w : List ℕ} (post : List ℕ) {at : ℕ} {q : Run} → RunFields s → At w at (run_words s ++ post) → read_at w at ≡ run q → shape q ≡ s
+pub read_shape : (s : Shape) {w : List ℕ} (post : List ℕ) {at : ℕ} {q : AsciiRun} → RunFields s → At w at (run_words s ++ post) → read_at w at ≡ Ok q → shape q ≡ s
 read_shape s post {q = q} v a e =
     let f = shape_reads s post v a in
     let h : q ≡ held s = cc in

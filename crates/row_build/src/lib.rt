@@ -177,22 +177,12 @@ fn too_short(ascii: usize, wide: usize, escape: usize) -> bool
     ascii < 128 || wide < NUMBERS || escape < NUMBERS
 }
 
-fn clear_targets(targets: &mut [u16])
-    ensures { targets.new ≡ zeros (length targets.old) }
-{
-    let mut i = 0;
-    while i < targets.len() {
-        targets[i] = 0;
-        i += 1;
-    }
-}
-
 // Clears the buffers for rows, and answers whether one of them is too short.
 fn clear_rows(ascii: &mut [u16], wide: &mut [u32], escape: &mut [u32]) -> bool
     ensures { Cleared result ascii.old ascii.new wide.old wide.new escape.old escape.new }
 {
     let short = too_short(ascii.len(), wide.len(), escape.len());
-    clear_targets(ascii);
+    buffer::clear(ascii);
     buffer::clear(wide);
     buffer::clear(escape);
     short
