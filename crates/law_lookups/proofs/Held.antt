@@ -7,7 +7,7 @@ use lib.ListN.{length, get_or, length-append}
 use Rattle.refusal.specs.Header.{MODES-START, STATES-START, RUNS-START, ASCII-START, WIDE-START, ACCEPTS-START, ESCAPES-START, CONTINUATIONS-START}
 use Rattle.refusal.specs.Header.{HEADER-NUMBERS, word_count}
 use Rattle.buffer.specs.Over.{zeros, padded}
-use Rattle.word_layout.specs.declared.Layout.TheVariants.{Found}
+use Rattle.std.specs.Prelude.{Ok}
 use Rattle.room_fill.specs.Room.{header, room_for}
 use Rattle.room_find.specs.Room.{words_end}
 use Rattle.law_tables.specs.Table.{Table, Accept, Continuation, Fields, counted, words_of, mode_words, state_words, run_words, ascii_words}
@@ -77,7 +77,7 @@ module _ (t : Table) (h : Fields t) (limit : length (words_of t) ≤ 8192) (n : 
   -- the room
 
   abbrev w : List ℕ
-  w = room_for words n (Found (sections_of t))
+  w = room_for words n (Ok (sections_of t))
 
   abbrev Z : List ℕ
   Z = zeros (n - length (numbers_of t))

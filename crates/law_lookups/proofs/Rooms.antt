@@ -2,7 +2,7 @@
 use Prim.Native.Nat.{ℕ, ◌≤◌}
 use mathlib.Core.List.{List}
 use lib.ListN.{length}
-use Rattle.word_layout.specs.declared.Layout.TheVariants.{Found}
+use Rattle.std.specs.Prelude.{Ok}
 use Rattle.room_fill.specs.Room.{room_for}
 use Rattle.law_tables.specs.Table.{Table, words_of, Fields}
 use Rattle.law_tables.specs.Rules.{Rules}
@@ -41,8 +41,8 @@ holds_looks t h r w k = record {
 }
 
 -- the room that decoding leaves for a table that it accepts
-pub room_looks : (t : Table) → Fields t → Rules t → length (words_of t) ≤ 8192 → (n : ℕ) → Looks t (room_for (words_of t) n (Found (sections_of t)))
-room_looks t h r l n = holds_looks t h r (room_for (words_of t) n (Found (sections_of t))) (held t h l n)
+pub room_looks : (t : Table) → Fields t → Rules t → length (words_of t) ≤ 8192 → (n : ℕ) → Looks t (room_for (words_of t) n (Ok (sections_of t)))
+room_looks t h r l n = holds_looks t h r (room_for (words_of t) n (Ok (sections_of t))) (held t h l n)
 
-pub room_never : (t : Table) → Fields t → Rules t → length (words_of t) ≤ 8192 → (n : ℕ) → Never (room_for (words_of t) n (Found (sections_of t)))
-room_never t h r l n = looks_never t (room_for (words_of t) n (Found (sections_of t))) (room_looks t h r l n)
+pub room_never : (t : Table) → Fields t → Rules t → length (words_of t) ≤ 8192 → (n : ℕ) → Never (room_for (words_of t) n (Ok (sections_of t)))
+room_never t h r l n = looks_never t (room_for (words_of t) n (Ok (sections_of t))) (room_looks t h r l n)

@@ -8,12 +8,12 @@ use mathlib.Core.Bool.{true}
 use lib.ListN.{length, take, length-map, length-append, length-replicate}
 use lib.Seq.{take_at}
 use borrow.Author.Tests.{le-ltb, eq-eqb}
+use Rattle.std.specs.Prelude.{Ok}
 use Rattle.refusal.proofs.Lists.{equal_same}
 use Rattle.buffer.specs.Over.{zeros, padded}
 use Rattle.room_fill.specs.Room.{room_for}
 use Rattle.room_fill.proofs.Sizes.{numbers-length}
-use Rattle.room_decode.specs.declared.Decoded.TheVariants as decoded
-use Rattle.room_decode.specs.Decode.{judged, decoded_from, decode_of, kept_from, room_of}
+use Rattle.room_decode.specs.Decode.{Decoding, judged, decoded_from, decode_of, kept_from, room_of}
 use Rattle.room_judge.specs.Judge.{words_part, accepted, is_table}
 use Rattle.room_judge.proofs.Tables.{laid, accepted_table}
 use Rattle.room_encode.specs.Encode.{encode_of, out_of}
@@ -54,8 +54,12 @@ normal-rules t r =
 
 -- A table that obeys the rules, decoded
 
+-- its numbers, for n words
+abbrev told : Table → ℕ → Decoding
+told t n = Ok (record { modes = length t.modes; states = length t.states; words = n })
+
 module _ (t : Table) (h : Fields t) (r : Rules t) (l : length (words_of t) ≤ 8192) (n : ℕ) (room : 16384 ≤ n) where
-  table_decoded : decode_of (words_of t) n ≡ decoded.Table (length t.modes) (length t.states) (length (words_of t))
+  table_decoded : decode_of (words_of t) n ≡ told t (length (words_of t))
   unfolding decoded_from judged
   table_decoded =
       let m = at_head (modes_stand t) in
@@ -96,7 +100,7 @@ module _ (t : Table) (h : Fields t) (r : Rules t) (l : length (words_of t) ≤ 8
   unfolding normal
   decoded_again =
       table_decoded (normal t) (normal-fields t h) (normal-rules t r) normal_limit n room
-      ∙ ap (decoded.Table (length t.modes) (length t.states)) (normal_size t) ∙ sym (table_decoded t h r l n room)
+      ∙ ap (told t) (normal_size t) ∙ sym (table_decoded t h r l n room)
 
   room-part : words_part (room_of (words_of t) n) ≡ words_of (normal t)
   room-part = ap words_part (table_room t h r l n room) ∙ words_part_lem t n

@@ -14,9 +14,8 @@ use Rattle.refusal.specs.Said.{ok, no, STATE}
 use Rattle.refusal.specs.Lists.{pick, each}
 use Rattle.refusal.specs.Fixed.{DEAD-STATE}
 use Rattle.refusal.specs.Header.{STATES-START, HEADER-NUMBERS, word_count}
-use Rattle.word_layout.specs.declared.Layout.TheVariants.{Found}
+use Rattle.std.specs.Prelude.{Ok}
 use Rattle.room_fill.specs.Room.{room_for}
-use Rattle.room_find.specs.declared.Found.TheVariants as place
 use Rattle.room_find.specs.Room.{state_at, follow}
 use Rattle.room_decode.specs.Decode.{kept_from, room_of}
 use Rattle.room_judge.specs.Judge.{words_part, is_table}
@@ -56,7 +55,7 @@ part_fits d f i h =
 
 -- what decoding leaves for a table
 table_kept : (t : Table) → Fields t → Rules t → length (words_of t) ≤ 8192 → (n : ℕ) → 16384 ≤ n
-    → room_of (words_of t) n ≡ room_for (words_of t) n (Found (sections_of t))
+    → room_of (words_of t) n ≡ room_for (words_of t) n (Ok (sections_of t))
 unfolding kept_from
 table_kept t h r l n room = rw (laid t h r l n room, eq-eqb (broken_of t) 0 (obeys_accepted t h l r).1)
 
@@ -68,7 +67,7 @@ table_held d f h =
     let a = accepted_table (words_part d) n (part_fits d f) o.0 in
     let t = a.0 in
     let l : length (words_of t) ≤ 8192 = subst (λ v. length v ≤ 8192) a.3 a.4 in
-    let e : d ≡ room_for (words_of t) n (Found (sections_of t)) = o.1 ∙ ap (λ v. room_of v n) a.3 ∙ table_kept t a.1 a.2 l n a.5 in
+    let e : d ≡ room_for (words_of t) n (Ok (sections_of t)) = o.1 ∙ ap (λ v. room_of v n) a.3 ∙ table_kept t a.1 a.2 l n a.5 in
     (t, a.1, a.2, subst (Held t) (sym e) (held t a.1 l n))
 
 module _ (t : Table) (h : Fields t) (r : Rules t) (d : List ℕ) (k : Held t d) (s : ℕ) (l : s < length t.states) where
@@ -110,7 +109,7 @@ held_coverage t h r d k i s =
     ∙ ap (λ n. pick (ltb s (length t.states)) (ok (n ∷ [])) (no STATE 0)) e
 
 -- a state that is found in a table
-pub state_covered : (d : List ℕ) → Numbers d → is_table d ≡ true → (s p : ℕ) → state_at d s ≡ place.At p
+pub state_covered : (d : List ℕ) → Numbers d → is_table d ≡ true → (s p : ℕ) → state_at d s ≡ Ok p
     → count (goes_on d s) 128 + wide_spans d (get_or d (p + 1) 0) ≡ covered d s
 state_covered d f h s p e =
     let a = table_held d f h in

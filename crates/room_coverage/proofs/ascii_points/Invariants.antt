@@ -1,11 +1,7 @@
 -- The points below x are counted.
-use Prim.Native.Nat.{◌-◌, ◌≤◌}
 use mathlib.Core.Path.{◌≡◌}
 use Rattle.room_coverage.specs.Coverage.{goes_on, count}
 use Rattle.room_coverage.proofs.ascii_points.Given as goal
 
 abbrev pub invariant-loop-x : goal.invariant-loop-x
-invariant-loop-x l = (l.points ≡ count (goes_on l.room l.state) l.x) × (l.x ≤ 128)
-
-abbrev pub decreases-loop-x : goal.decreases-loop-x
-decreases-loop-x l = 128 - l.x
+invariant-loop-x l = l.points ≡ count (goes_on l.room l.state) l.x
