@@ -1,5 +1,5 @@
 // What index rule 9 asks of a continuation: its contexts refer only below themselves, and the context of a config is at most their count (0 is none).
-// And whether the flags of its configs are plain. A word past the end is 0, so every function takes any place.
+// And whether the flags of its configs are plain. A word past the end is 0, so every function takes any place, and a place is no slice.
 #![tactic(auto)]
 
 ghost use Rattle.std.specs.Prelude.{◌≡◌, ℕ, ◌+◌, ◌≤◌, Bool, length};

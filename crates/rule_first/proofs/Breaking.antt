@@ -1,4 +1,4 @@
--- Two counts that were read; as many obey a rule as there are; and the first broken rule: this one, or one of the others. Assumes nothing.
+-- As many obey a rule as there are; and the first broken rule: this one, or one of the others. Assumes nothing.
 use Prim.Native.Nat.{ℕ, ◌+◌}
 use native.Mathlib.Omega.{arith}
 use mathlib.Core.Path.{◌≡◌, refl, sym, ap, ◌∙◌}
@@ -12,19 +12,11 @@ use Rattle.refusal.specs.Lists.{pick}
 use Rattle.std.specs.Prelude.{Option, Some, None}
 use Rattle.word_reader.specs.declared.Sections.{Sections}
 use Rattle.word_reader.specs.Records.{mode_at, state_at, run_at, ascii_at, wide_at, escape_at, continuation_at}
-use Rattle.rule_words.specs.Rules.{same_count, first_broken, first_item, broken, broken_item, start_good, state_good, run_good, ascii_good, wide_good, escape_good, continuation_good}
+use Rattle.rule_words.specs.Rules.{first_broken, first_item, broken, broken_item, start_good, state_good, run_good, ascii_good, wide_good, escape_good, continuation_good}
 use Rattle.rule_words.specs.Rules.{rule1, rule2, rule4, rule5, rule6, rule8, rule9, item1, item2, item4, item5, item6, item8, item9}
 use Rattle.rule_words.proofs.Laws.{numbered-passes, in_section}
 use Rattle.rule_first.specs.declared.Broken.{Broken}
 use Rattle.rule_first.specs.Broken.{by_number, first_from, first_in}
-
-pub counted : (w : List ℕ) (p q : ℕ) {x y : ℕ} → x ≡ get_or w p 0 → y ≡ get_or w q 0 → eqb x y ≡ same_count w p q
-counted w p q d e = rw (d, e)
-
-pub listed : (w : List ℕ) (at n : ℕ) {x : ℕ} → x ≡ get_or w at 0 → eqb n x ≡ eqb n (get_or w at 0)
-listed w at n e = rw e
-
-pub ruleset counting = (rules, counted, listed)
 
 -- a rule holds where as many obey it as there are
 module _ (w : List ℕ) where

@@ -1,5 +1,5 @@
 // What index rules 5, 6 and 8 ask of a row: of one of ASCII targets, of a wide row and of an escape row.
-// Each takes the words and the place of a row; a word past the end is 0, so every function takes any place.
+// Each takes the words and the place of a row; a word past the end is 0, so every function takes any place, and a place is no slice.
 #![tactic(auto)]
 
 ghost use Rattle.std.specs.Prelude.{◌≡◌, ℕ, ◌+◌, ◌≤◌, Bool, ◌&&◌, length};

@@ -1,17 +1,14 @@
--- The tests of a mode, of a state and of an accept, by the words that were read. Assumes nothing.
+-- The tests of a state and of an accept, by the words that were read. Assumes nothing.
 use Prim.Native.Nat.{ℕ, ◌+◌}
 use mathlib.Core.Path.{◌≡◌, ◌∙◌}
 use mathlib.Core.List.{List}
 use mathlib.Core.Bool.{Bool, ◌&&◌}
 use lib.ListN.{get_or}
 use borrow.Author.Rules.{rules}
-use Rattle.rule_words.specs.Rules.{good, none_or, present, start_good, state_good}
+use Rattle.rule_words.specs.Rules.{good, none_or, present, state_good}
 use Rattle.rule_words.specs.Flags.{plain, accept_plain}
 
 module _ (w : List ℕ) (at : ℕ) where
-  pub start_tested : (ns : ℕ) {x : ℕ} {r : Bool} → r ≡ none_or ns x → x ≡ get_or w at 0 → r ≡ start_good ns w at
-  start_tested ns d e = d ∙ (rw e)
-
   pub state_tested : (ns na nv nx : ℕ) {x y z u : ℕ} {p q r s : Bool} → p ≡ present na x → x ≡ get_or w at 0 → q ≡ present nv y → y ≡ get_or w (at + 1) 0
       → r ≡ good ns z → z ≡ get_or w (at + 2) 0 → s ≡ none_or nx u → u ≡ get_or w (at + 3) 0 → p && (q && (r && s)) ≡ state_good ns na nv nx w at
   unfolding state_good
@@ -21,4 +18,4 @@ module _ (w : List ℕ) (at : ℕ) where
   unfolding accept_plain
   accept_tested d e = d ∙ (rw e)
 
-pub ruleset testing = (rules, start_tested, state_tested, accept_tested)
+pub ruleset testing = (rules, state_tested, accept_tested)

@@ -12,6 +12,8 @@ use rule_words::word_at;
 
 // What is asked of a record, with the numbers that it is judged by: how many states, rows, accepts or continuations there are. A run is judged by
 // the places of the states' and the ASCII rows' counts.
+//
+// A question is a value and no closure: `all_pass`, which docs/PROMISES.md names, takes any of the nine (what may not change).
 #[derive(Clone, Copy)]
 pub enum Question {
     StartIsState(u32),

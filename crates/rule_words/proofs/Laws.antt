@@ -20,13 +20,8 @@ use Rattle.rule_words.specs.Rules.{every_from, every, every_in, numbered_in, wal
 pub past_end : (w : List ℕ) (at : ℕ) → length w ≤ at → 0 ≡ get_or w at 0
 past_end w at h = sym (get_or-eq_default w 0 h)
 
-pub past_skip : (w : List ℕ) (at skip : ℕ) → at < length w → length w - at ≤ skip → 0 ≡ get_or w (at + skip) 0
-past_skip w at skip h k = past_end w (at + skip) (omega arith)
-
 pub past_all : (w : List ℕ) (at skip : ℕ) → length w ≤ at → 0 ≡ get_or w (at + skip) 0
 past_all w at skip h = past_end w (at + skip) (omega arith)
-
-pub ruleset reading = (rules, past_end, past_skip, past_all)
 
 -- Each record of a list: the walk hands nothing on.
 abbrev pub rest : (ℕ → Bool) → (ℕ → Place) → ℕ → ℕ → Bool
@@ -157,6 +152,3 @@ module _ (read : List ℕ → ℕ → Place) (w : List ℕ) (at : ℕ) where
   pub section_past : (test : ℕ → Bool) → length w ≤ at → true ≡ every_in read test w at
   unfolding walk every_in every
   section_past test h = rw (← past_end w at h)
-
-  pub section-passes : (test : ℕ → Bool) {k : ℕ} → k ≡ passing (λ i. test) (read w) 0 (get_or w at 0) (at + 1) → eqb k (get_or w at 0) ≡ every_in read test w at
-  section-passes test e = numbered-passes (λ i. test) e ∙ in_section read test w at

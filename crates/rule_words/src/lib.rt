@@ -12,29 +12,21 @@ use refusal::{DEAD_STATE, ESCAPE_STATE, NONE};
 pub fn word_at(words: &[u32], at: usize) -> u32
     ensures { result ≡ get_or words.now at 0 }
 {
-    if at < words.len() {
-        return words[at];
-    }
-    0
+    words.get(at).copied().unwrap_or(0)
 }
 
 // The word that stands `skip` words behind a place, or 0 past the end.
 pub fn word_past(words: &[u32], at: usize, skip: usize) -> u32
     ensures { result ≡ get_or words.now (at + skip) 0 }
 {
-    if at < words.len() {
-        if skip < words.len() - at {
-            return words[at + skip];
-        }
-    }
-    0
+    word_at(words, at.saturating_add(skip))
 }
 
 // A target is good: a state, ESCAPE_STATE or DEAD_STATE.
 pub fn good(states: u32, x: u32) -> bool
     ensures { result ≡ good states x }
 {
-    (x < states) | ((x == ESCAPE_STATE as u32) | (x == DEAD_STATE as u32))
+    (x < states) | ((x == u32::from(ESCAPE_STATE)) | (x == u32::from(DEAD_STATE)))
 }
 
 // NONE, or one of `count`.

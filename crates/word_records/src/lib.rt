@@ -102,6 +102,8 @@ impl Record for Triple {
     }
 }
 
+// The three readers of lists of triples below differ in where the count stands; with that number as an argument they would be no plainer.
+
 // An accept: rule, consumed-EOF flag, action count, actions.
 pub fn read_accept(words: &[u32], at: usize) -> Result<usize, Refusal>
     ensures { result ≡ accept_at words.now at }

@@ -8,7 +8,8 @@ ghost use Rattle.word_sections.specs.Kinds.{record_at};
 use refusal::Refusal;
 use word_reader::Record;
 
-// The kinds of records, in the order of their sections.
+// The kinds of records, in the order of their sections. A kind is a value: `read_record` and `read_section`, which docs/PROMISES.md names,
+// take any of them (what may not change).
 #[derive(Clone, Copy)]
 pub enum Kind {
     Mode,

@@ -1,7 +1,8 @@
--- The tests are the definition's.
+-- The test is the definition's.
+use borrow.Author.Rules.{rules}
 use Rattle.rule_words.specs.Rules.{good}
 use Rattle.rule_words.proofs.good.Goals as goal
 
 pub returns : goal.returns
 unfolding good
-returns c = cc
+returns c = search rules

@@ -1,4 +1,4 @@
--- The tests are the definition's.
+-- The test is the definition's.
 use Rattle.rule_words.specs.Rules.{none_or}
 use Rattle.rule_words.proofs.none_or.Goals as goal
 

@@ -1,4 +1,4 @@
--- The tests are the definition's.
+-- The test is the definition's.
 use Rattle.rule_words.specs.Rules.{present}
 use Rattle.rule_words.proofs.present.Goals as goal
 
