@@ -41,23 +41,11 @@ fn before_first<F: Fn(u8) -> bool>(input: &[u8], stops: F) -> usize
     input.len()
 }
 
-fn lesser(x: u8, y: u8) -> u8
-    ensures { result ≡ min x y }
-{
-    if x < y {
-        return x;
-    }
-    y
-}
-
 // The place of a byte that is outside; of any other, the end of its block.
 fn place_or_end(outside: bool, place: u8) -> u8
     ensures { result ≡ pick outside place 16 }
 {
-    if outside {
-        return place;
-    }
-    16
+    if outside { place } else { 16 }
 }
 
 // How many bytes of a block stand before the first that is in none of four ranges. The loop has no early way out and a place is
@@ -66,13 +54,11 @@ fn first_outside(a: AsciiRange, b: AsciiRange, c: AsciiRange, d: AsciiRange, blo
     requires { length block.now ≡ 16 }
     ensures { (result ≡ before (outside (a ∷ b ∷ c ∷ d ∷ [])) block.now) × (result ≤ 16) }
 {
-    let mut first = 16;
-    let mut k = 0;
-    while k < 16 {
-        first = lesser(first, place_or_end(outside(a, b, c, d, block[k]), k as u8));
-        k += 1;
+    let mut first = 16u8;
+    for k in 0..16 {
+        first = first.min(place_or_end(outside(a, b, c, d, block[k]), k as u8));
     }
-    first as usize
+    usize::from(first)
 }
 
 // The same as `scan_bytes`, block by block. The last block ends with the input, so it can begin inside the one before it.
@@ -108,9 +94,10 @@ fn used(range: AsciiRange, yes: bool) -> AsciiRange
     ensures { result ≡ used_if yes range }
 {
     if yes {
-        return range;
+        range
+    } else {
+        AsciiRange { low: 1, high: 0 }
     }
-    AsciiRange { low: 1, high: 0 }
 }
 
 // How many bytes stand before the first that is in none of the ranges.

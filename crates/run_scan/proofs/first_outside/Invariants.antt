@@ -1,5 +1,5 @@
--- `range_scan::first_outside` meets its contract, by the laws of a search with no early way out. The measure is how many bytes are left.
-use Prim.Native.Nat.{◌+◌, ◌-◌, ◌≤◌, min}
+-- The laws of a search with no early way out.
+use Prim.Native.Nat.{◌+◌, ◌≤◌, min}
 use mathlib.Core.Path.{◌≡◌}
 use mathlib.Core.List.{[], ◌∷◌}
 use lib.ListN.{drop}
@@ -9,6 +9,3 @@ use Rattle.run_scan.proofs.first_outside.Given as goal
 
 abbrev pub invariant-loop-k : goal.invariant-loop-k
 invariant-loop-k l = (l.first ≤ 16) × (min l.first (l.k + before (outside (l.a ∷ l.b ∷ l.c ∷ l.d ∷ [])) (drop l.k l.block)) ≡ before (outside (l.a ∷ l.b ∷ l.c ∷ l.d ∷ [])) l.block)
-
-abbrev pub decreases-loop-k : goal.decreases-loop-k
-decreases-loop-k l = 16 - l.k
