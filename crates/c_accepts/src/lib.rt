@@ -33,6 +33,7 @@ pub struct CAccept {
     pub actions: u32,
 }
 
+// A function and no `From`: the contract of the one call says it as plainly.
 fn accept_in_c(got: Result<AcceptRecord, Missing>) -> CAccept
     ensures { result ≡ accept_in_c (recorded.said got) }
 {
@@ -41,7 +42,7 @@ fn accept_in_c(got: Result<AcceptRecord, Missing>) -> CAccept
             number: 0,
             found: 1,
             rule: accept.rule,
-            consumed_eof: accept.consumed_eof as u32,
+            consumed_eof: u32::from(accept.consumed_eof),
             actions: accept.actions,
         },
         Err(Missing::Absent) => CAccept {

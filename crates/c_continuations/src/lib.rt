@@ -40,6 +40,7 @@ pub struct CContinuation {
     pub configs: u32,
 }
 
+// A function and no `From`: the contract of the one call says it as plainly.
 fn continuation_in_c(got: Result<ContinuationRecord, Missing>) -> CContinuation
     ensures { result ≡ continuation_in_c (resumed.said got) }
 {

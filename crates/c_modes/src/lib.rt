@@ -14,7 +14,7 @@ use room_find::Missing;
 fn compiled_in_c(compiled: Result<bool, Missing>) -> CValue
     ensures { result ≡ value_in_c (moding.compiled_said compiled) }
 {
-    c_value::value_in_c(compiled.map(|some| some as u32))
+    c_value::value_in_c(compiled.map(u32::from))
 }
 
 // Whether some mode is compiled: 1 or 0.

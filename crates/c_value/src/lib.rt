@@ -18,7 +18,7 @@ pub struct CValue {
     pub number: u32,
 }
 
-// What is told of a state, in C.
+// What is told of a state, in C. A function and no `From`, as `written_in_c` is: docs/PROMISES.md and the laws of uniqueness name them.
 pub fn value_in_c(answer: Result<u32, Missing>) -> CValue
     ensures { result ≡ value_in_c (said answer) }
 {

@@ -14,8 +14,8 @@ use room_find::{Missing, Span};
 fn start_of(s: u32) -> Result<Option<u16>, Missing>
     ensures { said result ≡ started s }
 {
-    if s <= 65535 {
-        return Ok(Some(s as u16));
+    if let Ok(start) = u16::try_from(s) {
+        return Ok(Some(start));
     }
     if s == NONE {
         return Ok(None);

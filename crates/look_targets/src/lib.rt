@@ -51,7 +51,7 @@ pub fn ascii_target(room: &[u32], state: u16, symbol: u8) -> Result<u32, Missing
     ensures { said result ≡ ascii_target room.now state symbol }
 {
     let p = room_find::find_state(room, state)?;
-    row_target(room, room[p], symbol as u32)
+    row_target(room, room[p], u32::from(symbol))
 }
 
 // Where a wide row stands: its length, and its ranges behind it.
