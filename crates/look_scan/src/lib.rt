@@ -104,10 +104,10 @@ fn scan_run(
 fn scan_of(room: &[u32], i: u32, input: &[u8]) -> Result<Option<AsciiRunScan>, Refusal>
     ensures { result ≡ scan_by (run_of room.now i) input.now }
 {
-    match look_runs::find_run(room, i) {
-        Ok(p) => scan_run(room, room[ASCII_START], p, input),
-        Err(_) => refuse(NOT_TABLE),
-    }
+    let Ok(p) = look_runs::find_run(room, i) else {
+        return refuse(NOT_TABLE);
+    };
+    scan_run(room, room[ASCII_START], p, input)
 }
 
 // How many bytes a state's run skips, and whether an exit was found; or that there is no run.
