@@ -1,4 +1,4 @@
--- How to go on with what a search gave, and that `said` takes no two answers to one. Assumes nothing.
+-- What is said of a search takes no two answers to one. Assumes nothing.
 use Prim.Native.Nat.{ℕ}
 use mathlib.Core.Path.{◌≡◌, refl, sym, ap, ◌∙◌}
 use mathlib.Core.List.{List, [], ◌∷◌}
@@ -8,21 +8,7 @@ use Rattle.refusal.specs.Lists.{pick}
 use Rattle.std.specs.Prelude.{Option, Some, None, Result, Ok, Err}
 use Rattle.room_find.specs.declared.Missing.{Missing}
 use Rattle.room_find.specs.declared.Missing.TheVariants.{Absent, Outside}
-use Rattle.look_row.specs.Search.{said, given}
-
--- a third number, none, or nothing since the row is outside
-module _ {A : Type 0} (x : Result (Option ℕ) Missing) (f : ℕ → A) (a o : A) where
-  pub gives : {t : ℕ} {got : Result (Option ℕ) Missing} {all : A} → got ≡ x → got ≡ Ok (Some t) → all ≡ f t → all ≡ given x f a o
-  unfolding given
-  gives g e h = h ∙ (rw (← g, e))
-
-  pub gives_none : {got : Result (Option ℕ) Missing} → got ≡ x → got ≡ Ok None → a ≡ given x f a o
-  unfolding given
-  gives_none g e = rw (← g, e)
-
-  pub row-outside : {got : Result (Option ℕ) Missing} {m : Missing} → got ≡ x → got ≡ Err m → o ≡ given x f a o
-  unfolding given
-  row-outside g e = rw (← g, e)
+use Rattle.look_row.specs.Search.{said}
 
 -- `said` takes no two answers to one: what it says gives the answer back
 abbrev list_back : List ℕ → Option ℕ

@@ -1,7 +1,6 @@
--- The laws of finding a record: by the tests that the code makes, where a record that is found lies, how to go on from it, and that `said`
+-- The laws of finding a record: where a record that is found lies, how to go on from it, and that `said`
 -- takes no two answers to one. `got` is what the code found. Assumes nothing.
 use Prim.Native.Nat.{ℕ, zero, suc, ◌+◌, ◌*◌, ◌-◌, ◌^◌, ◌<◌, ◌≤◌}
-use native.Mathlib.Nat.{mul-le-mul}
 use native.Mathlib.Omega.{arith}
 use mathlib.Core.Path.{◌≡◌, refl, sym, ap, ◌∙◌}
 use mathlib.Core.Bool.{Bool, true, false}
@@ -11,24 +10,13 @@ use lib.ListN.{length, get_or}
 use mir.Syntax.{w64}
 use mir.Val.{Fits}
 use borrow.Author.Rules.{rules}
-use borrow.Author.Tests.{le-leb, lt-leb, lt-ltb, le-ltb, ltb-true, leb-true}
+use borrow.Author.Tests.{ltb-true, leb-true}
 use Rattle.std.specs.Prelude.{Result, Ok, Err}
 use Rattle.refusal.specs.Said.{Said, ok, no_by}
 use Rattle.refusal.specs.Lists.{pick}
 use Rattle.room_find.specs.declared.Missing.{Missing}
 use Rattle.room_find.specs.declared.Missing.TheVariants.{Absent, Outside}
 use Rattle.room_find.specs.Room.{said, record_in, listed_in, record_at, words_end, end_of, section_of, past_lists, listed_at, state_at, follow}
-
--- a product of two u32 fits
-pub product : (i s : ℕ) → i ≤ 4294967295 → s ≤ 4294967295 → i * s ≤ 4294967295 * 4294967295
-product i s h l = mul-le-mul h l
-
--- a list that starts behind the room ends there
-pub past_list : (w : List ℕ) (list i : ℕ) → length w ≤ list → ltb (list + i) (length w) ≡ false
-past_list w list i h = let l : length w ≤ list + i = omega arith in le-ltb (list + i) (length w) l
-
--- what a function that finds a record is left with
-pub ruleset cases = (rules, le-leb, lt-leb, lt-ltb, le-ltb, past_list)
 
 -- Where a record lies that is found
 
