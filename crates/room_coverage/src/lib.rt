@@ -63,7 +63,7 @@ fn range_points(low: u32, high: u32, target: u32) -> u64
     points_below(u64::from(high) + 1).saturating_sub(points_below(u64::from(low)))
 }
 
-// The points of `count` ranges from `at`.
+// The points of `count` ranges from `at`. By places and not by `chunks_exact`, since the definition, `spans`, walks the room by its places too.
 fn ranges_points(room: &[u32], at: usize, count: u32) -> u64
     requires { at + count * 3 ≤ length room.now }
     ensures { result ≡ spans room.now count at }

@@ -1,5 +1,6 @@
 // Writes the words of a table, flags made 0 or 1, section by section. Each function writes from place `n` of the room on and answers the
-// place behind what it wrote.
+// place behind what it wrote. Room and place stay two parameters: each contract speaks of the room before and after, and would say as much of a
+// struct that holds both.
 ghost use Rattle.std.specs.Prelude.{◌≡◌, ◌≤◌, ◌<◌, ◌+◌, ◌*◌, ℕ, List, length, map, Ok};
 ghost use Rattle.word_reader.specs.Parse.{Place};
 ghost use Rattle.word_reader.specs.Records.{accept_at, config_at, continuation_at};
