@@ -11,7 +11,6 @@ use Rattle.std.specs.Borrow.{Bor, MutBor}
 use Rattle.refusal.specs.Said.{ok, no, STATE, NOT-TABLE}
 use Rattle.refusal.proofs.Apart.{one_number, one_place}
 use Rattle.refusal.specs.Lists.{pick}
-use Rattle.room_decode.specs.declared.Decoded.{Decoded}
 use Rattle.room_decode.specs.Decode.{said}
 use Rattle.room_judge.specs.Judge.{accepted, words_part, is_table}
 use Rattle.law_tables.specs.Table.{Table, words_of, Fields}
@@ -20,7 +19,6 @@ use Rattle.law_tables.specs.Whole.{Fit}
 use Rattle.law_round_trip.specs.Trip.{Trip}
 use Rattle.law_round_trip.proofs.RoundTrip.{round_trip}
 use Rattle.law_lookups.proofs.Held.{Held, held}
-use Rattle.room_find.specs.declared.Answer.{Answer}
 use Rattle.room_find.specs.Answer.{said as told}
 use Rattle.room_coverage.specs.Coverage.{coverage_of}
 use Rattle.room_coverage.specs.OnTable.{coverage_on}
@@ -28,9 +26,12 @@ use Rattle.room_coverage.proofs.Tables.{held_coverage}
 use Rattle.lexer_dfa.specs.Demands.{DecodeAnswers, Accepted, Leaves, CoverageAnswers, CoveredBy}
 use Rattle.lexer_dfa.proofs.Decoding.{decode_accepts, decode_refuses, table_room}
 use Rattle.lexer_dfa.proofs.RoundTrip.{said-accepted, leaves_table, table_leaves, none_left}
+use Rattle.std.specs.Prelude.{Result}
+use Rattle.room_decode.specs.Decode.{Decoding}
+use Rattle.room_find.specs.declared.Missing.{Missing}
 
 -- where decode accepts, coverage counts the points at which the table's state goes on
-pub decoded_coverage : (words : Bor (List ℕ)) (room : MutBor (List ℕ)) → Fit words.now → 16384 ≤ length room.now → (x : Decoded) (left : List ℕ) →
+pub decoded_coverage : (words : Bor (List ℕ)) (room : MutBor (List ℕ)) → Fit words.now → 16384 ≤ length room.now → (x : Decoding) (left : List ℕ) →
     DecodeAnswers words room x left →
     (modes states count : ℕ) → said x ≡ ok (modes ∷ states ∷ count ∷ []) →
     (a : Accepted words.now modes states count) × ((s : ℕ) → coverage_of left s ≡ coverage_on a.table s)
@@ -82,7 +83,7 @@ says_no_table d s h = rw h
 
 -- The call, by its own contract: "Encoding and coverage give NOT-TABLE exactly when the room isn't what decoding leaves for some accepted words". As of the
 -- words of decode, that the room's numbers have 32 bits is a premise
-pub coverage_answers : (room : Bor (List ℕ)) → Fit room.now → (s : ℕ) (x : Answer) → CoverageAnswers room s x → CoveredBy room.now s (told x)
+pub coverage_answers : (room : Bor (List ℕ)) → Fit room.now → (s : ℕ) (x : Result ℕ Missing) → CoverageAnswers room s x → CoveredBy room.now s (told x)
 coverage_answers room f s x a =
     let d = room.now in
     let own = table_leaves (a.0.0, (a.0.0, tt)) room f in

@@ -16,7 +16,6 @@ use Rattle.refusal.specs.Lists.{pick}
 use Rattle.room_judge.specs.Judge.{words_part, is_table}
 use Rattle.law_tables.specs.Table.{Table}
 use Rattle.law_tables.specs.Whole.{Fit}
-use Rattle.room_find.specs.declared.Answer.{Answer}
 use Rattle.room_find.specs.Answer.{said as told}
 use Rattle.room_coverage.specs.Coverage.{coverage_of}
 use Rattle.room_coverage.specs.OnTable.{coverage_on}
@@ -25,6 +24,8 @@ use Rattle.lexer_dfa.specs.CoveredExactly.{covered_on, RoomOf, CoveredExactly}
 use Rattle.lexer_dfa.proofs.Decoding.{decode_accepts, decode_refuses}
 use Rattle.lexer_dfa.proofs.RoundTrip.{leaves_table, table_leaves, none_left}
 use Rattle.lexer_dfa.proofs.TableDecoded.{table_covered}
+use Rattle.std.specs.Prelude.{Result}
+use Rattle.room_find.specs.declared.Missing.{Missing}
 
 -- The table of a room
 
@@ -127,7 +128,7 @@ module _ {d : List ℕ} {s : ℕ} where
 
 -- "Encoding and coverage give NOT-TABLE exactly when the room isn't what decoding leaves for some accepted words"; "how many code points from 0 to 1,114,111
 -- are not dead in a given state"
-pub coverage_exactly : (room : Bor (List ℕ)) → Fit room.now → (s : ℕ) (x : Answer) → CoverageAnswers room s x → CoveredExactly room.now s (told x)
+pub coverage_exactly : (room : Bor (List ℕ)) → Fit room.now → (s : ℕ) (x : Result ℕ Missing) → CoverageAnswers room s x → CoveredExactly room.now s (told x)
 coverage_exactly room f s x a =
     let d = room.now in
     let y = why s room f in
@@ -144,10 +145,10 @@ coverage_exactly room f s x a =
 
 -- one table tells it of every state: the room is left for no words, or there is a table whose room it is, and coverage of each state is that of this table
 pub coverage_one_table : (room : Bor (List ℕ)) → Fit room.now → ((w : List ℕ) → Leaves w room.now → ⊥)
-    ⊎ ((t : Table) × RoomOf t room.now × ((s : ℕ) (x : Answer) → CoverageAnswers room s x → told x ≡ coverage_on t s))
+    ⊎ ((t : Table) × RoomOf t room.now × ((s : ℕ) (x : Result ℕ Missing) → CoverageAnswers room s x → told x ≡ coverage_on t s))
 coverage_one_table room f = go (room_table room f)
   where
     go : ((w : List ℕ) → Leaves w room.now → ⊥) ⊎ ((t : Table) × RoomOf t room.now) → ((w : List ℕ) → Leaves w room.now → ⊥)
-        ⊎ ((t : Table) × RoomOf t room.now × ((s : ℕ) (x : Answer) → CoverageAnswers room s x → told x ≡ coverage_on t s))
+        ⊎ ((t : Table) × RoomOf t room.now × ((s : ℕ) (x : Result ℕ Missing) → CoverageAnswers room s x → told x ≡ coverage_on t s))
     go (inl h) = inl h
     go (inr (t, r)) = inr (t, r, λ s x a. a.2 ∙ table_coverage r s)

@@ -13,14 +13,11 @@ use Rattle.std.specs.Borrow.{Bor, MutBor}
 use Rattle.refusal.specs.declared.Refusal.{Refusal}
 use Rattle.refusal.specs.Said.{Said, broken_by, refusal_at, ok, no_by, no, SHORT, TAG, FIELD, LIMIT, LEFT, INDEX, ROOM}
 use Rattle.refusal.specs.Lists.{pick}
-use Rattle.word_layout.specs.declared.Layout.{Layout}
-use Rattle.word_layout.specs.declared.Layout.TheVariants.{Found, Unfound}
 use Rattle.word_layout.specs.Layout.{unfound, layout_of}
 use Rattle.rule_words.specs.Rules.{broken, broken_item}
 use Rattle.buffer.specs.Over.{zeros}
 use Rattle.word_layout.specs.Limits.{laid_out}
 use Rattle.room_fill.specs.Room.{room_for}
-use Rattle.room_decode.specs.declared.Decoded.{Decoded}
 use Rattle.room_decode.specs.Decode.{said, judged, decoded_from, decode_of, kept_from, room_of}
 use Rattle.law_tables.specs.Table.{Table, words_of, Fields}
 use Rattle.law_tables.specs.Whole.{Fit}
@@ -33,6 +30,9 @@ use Rattle.law_tables.proofs.Obeyed.{unbroken_is, broken_first, first_broken_lem
 use Rattle.law_tables.proofs.Refusals.{refusals}
 use Rattle.lexer_dfa.specs.Demands.{DecodeAnswers, Accepted, From}
 use Rattle.lexer_dfa.specs.RefusedBy.{WithinLimits, Breaks, RefusedBy}
+use Rattle.std.specs.Prelude.{Result, Ok, Err}
+use Rattle.room_decode.specs.Decode.{Decoding}
+use Rattle.word_reader.specs.declared.Sections.{Sections}
 
 -- What decode says, on each condition
 
@@ -53,14 +53,14 @@ module _ (w : List ℕ) (n : ℕ) where
   is_read (h, l) = rw (le-ltb n 16384 h, le-ltb 8192 (length w) l)
 
   -- and what their layout refuses is refused
-  not_laid : {q : Refusal} → WithinLimits w n → layout_of w ≡ Unfound q → said (decode_of w n) ≡ no_by q
+  not_laid : {q : Refusal} → WithinLimits w n → layout_of w ≡ Err q → said (decode_of w n) ≡ no_by q
   unfolding decoded_from
   not_laid r e = ap (λ s. said (decoded_from w s)) (is_read r ∙ e)
 
 -- the words of a table, whose fields are allowed: its rules judge it
 module _ (t : Table) (h : Fields t) (n : ℕ) (r : WithinLimits (words_of t) n) where
   -- its sections are found
-  laid : laid_out (words_of t) n ≡ Found (sections_of t)
+  laid : laid_out (words_of t) n ≡ Ok (sections_of t)
   laid = is_read (words_of t) n r ∙ layout_is t h
 
   rules_judge : decode_of (words_of t) n ≡ judged (words_of t) (sections_of t) (broken_of t) (broken_item_of t)
@@ -78,7 +78,7 @@ module _ (t : Table) (h : Fields t) (n : ℕ) (r : WithinLimits (words_of t) n) 
   breaks k i p b = let e = first_broken_lem t h r.1 k i b in ap said rules_judge ∙ (rw (e.0, e.1, ne_eqb k 0 (λ z. omega arith)))
 
   -- the room of a table that obeys the rules
-  obeys_room : Rules t → room_of (words_of t) n ≡ room_for (words_of t) n (Found (sections_of t))
+  obeys_room : Rules t → room_of (words_of t) n ≡ room_for (words_of t) n (Ok (sections_of t))
   unfolding kept_from
   obeys_room o = ap (kept_from (words_of t) n) laid ∙ (rw (obeys_accepted t h r.1 o).1)
 
@@ -95,7 +95,7 @@ first_from_lem n i (R ∷ Rs) (inr f) = omega (arith, first_from_lem (n + 1) i R
 data Reason (w : List ℕ) (n : ℕ) (r : Refusal) : Type 0 where
   narrow : r ≡ refusal_at ROOM 0 → n < 16384 → Reason w n r
   long : r ≡ refusal_at LIMIT 8192 → 16384 ≤ n → 8192 < length w → Reason w n r
-  unlaid : WithinLimits w n → layout_of w ≡ Unfound r → Reason w n r
+  unlaid : WithinLimits w n → layout_of w ≡ Err r → Reason w n r
   broken_rule : r ≡ broken_by r.place r.item → WithinLimits w n → Breaks w r.place r.item → Reason w n r
 
 -- of words w and a room of n numbers this is said
@@ -118,9 +118,9 @@ table_why t h n r = go (broken_of t) refl
 
 module _ (w : List ℕ) (n : ℕ) (f : Fit w) where
   -- the words are read
-  read_why : WithinLimits w n → (s : Layout) → layout_of w ≡ s → Why w n (said (decode_of w n))
-  read_why r (Unfound q) e = subst (Why w n) (sym (not_laid w n r e)) (unlaid r e)
-  read_why r (Found s) e =
+  read_why : WithinLimits w n → (s : Result Sections Refusal) → layout_of w ≡ s → Why w n (said (decode_of w n))
+  read_why r (Err q) e = subst (Why w n) (sym (not_laid w n r e)) (unlaid r e)
+  read_why r (Ok s) e =
       let t = found_table w f e in
       subst (λ v. Why v n (said (decode_of v n))) (sym t.2) (table_why t.0 t.1 n (subst (λ v. WithinLimits v n) t.2 r))
 
@@ -140,7 +140,7 @@ module _ (w : List ℕ) (n : ℕ) (f : Fit w) where
   reason e = subst (Why w n) e why
 
   -- the layout gives 1, 2, 3 and 5, and no item
-  layout_number : {r : Refusal} → layout_of w ≡ Unfound r → From 1 5 r.number × (r.number ≡ LIMIT → ⊥) × (r.item ≡ 0)
+  layout_number : {r : Refusal} → layout_of w ≡ Err r → From 1 5 r.number × (r.number ≡ LIMIT → ⊥) × (r.item ≡ 0)
   layout_number {r} e = let q = (refusals w f).no_other r e in go q.0 q.1
     where
       go : (r.number ≡ SHORT) ⊎ (r.number ≡ TAG) ⊎ (r.number ≡ FIELD) ⊎ (r.number ≡ LEFT) → r.item ≡ 0
@@ -219,10 +219,10 @@ module _ (w : List ℕ) (n : ℕ) (enough : 16384 ≤ n) {modes states count : �
       e ∙ (rw (a.of_modes, a.of_states, a.of_words))
 
   -- and the room is the table's
-  keeps_accepted : room_of w n ≡ room_for w n (Found (sections_of a.table))
+  keeps_accepted : room_of w n ≡ room_for w n (Ok (sections_of a.table))
   keeps_accepted =
       let t = a.table in
-      subst (λ v. room_of v n ≡ room_for v n (Found (sections_of t))) (sym a.layout) (obeys_room t a.fields n reads a.rules)
+      subst (λ v. room_of v n ≡ room_for v n (Ok (sections_of t))) (sym a.layout) (obeys_room t a.fields n reads a.rules)
 
 -- and no others are
 pub says_accepted_exactly : (w : List ℕ) (n : ℕ) → Fit w → 16384 ≤ n → (modes states count : ℕ) →
@@ -230,12 +230,12 @@ pub says_accepted_exactly : (w : List ℕ) (n : ℕ) → Fit w → 16384 ≤ n �
 says_accepted_exactly w n f enough modes states count = (λ h. subst (Why w n) h (why w n f), λ h. says_accepted w n enough h)
 
 -- where decode refuses, the room holds zeros
-keeps_zeros : (w : List ℕ) (n : ℕ) {q : Refusal} (s : Layout) → said (decoded_from w s) ≡ no_by q → kept_from w n s ≡ zeros n
+keeps_zeros : (w : List ℕ) (n : ℕ) {q : Refusal} (s : Result Sections Refusal) → said (decoded_from w s) ≡ no_by q → kept_from w n s ≡ zeros n
 unfolding decoded_from judged kept_from
-keeps_zeros w n (Unfound r) e = refl
-keeps_zeros w n {q} (Found s) e = go (broken w s) e
+keeps_zeros w n (Err r) e = refl
+keeps_zeros w n {q} (Ok s) e = go (broken w s) e
   where
-    go : (k : ℕ) → said (judged w s k (broken_item w s)) ≡ no_by q → pick (eqb k 0) (room_for w n (Found s)) (zeros n) ≡ zeros n
+    go : (k : ℕ) → said (judged w s k (broken_item w s)) ≡ no_by q → pick (eqb k 0) (room_for w n (Ok s)) (zeros n) ≡ zeros n
     go zero h = let z : ◌≡◌ {A = ℕ} 0 1 = cc in absurd (omega arith)
     go (suc k) h = rw (ne_eqb (suc k) 0 (λ z. omega arith))
 
@@ -244,7 +244,7 @@ keeps_zeros w n {q} (Found s) e = go (broken w s) e
 
 -- Demand 2: "Given its room, decoding accepts the lists of up to 8,192 words that meet the layout and the nine index rules, and no others."
 pub decode_accepts : (words : Bor (List ℕ)) (room : MutBor (List ℕ)) → Fit words.now → 16384 ≤ length room.now →
-    (x : Decoded) (left : List ℕ) → DecodeAnswers words room x left →
+    (x : Decoding) (left : List ℕ) → DecodeAnswers words room x left →
     (modes states count : ℕ) → Exactly (said x ≡ ok (modes ∷ states ∷ count ∷ [])) (Accepted words.now modes states count)
 decode_accepts words room f enough x left a modes states count =
     let w = words.now in
@@ -253,7 +253,7 @@ decode_accepts words room f enough x left a modes states count =
     (λ h. subst (Why w n) (sym e ∙ h) (why w n f), λ h. e ∙ says_accepted w n enough h)
 
 -- Demand 1: "one numbered refusal, given on the stated condition and never otherwise."
-pub decode_refuses : (words : Bor (List ℕ)) (room : MutBor (List ℕ)) → Fit words.now → (x : Decoded) (left : List ℕ) → DecodeAnswers words room x left →
+pub decode_refuses : (words : Bor (List ℕ)) (room : MutBor (List ℕ)) → Fit words.now → (x : Decoding) (left : List ℕ) → DecodeAnswers words room x left →
     RefusedBy words.now (length room.now) (said x)
 decode_refuses words room f x left a =
     let w = words.now in
@@ -261,7 +261,7 @@ decode_refuses words room f x left a =
     subst (λ y. RefusedBy w n (said y)) (sym a.2.0) (says_refused w n f)
 
 -- "Refused: all outputs zero."
-pub refused-zero : (words : Bor (List ℕ)) (room : MutBor (List ℕ)) (x : Decoded) (left : List ℕ) → DecodeAnswers words room x left →
+pub refused-zero : (words : Bor (List ℕ)) (room : MutBor (List ℕ)) (x : Decoding) (left : List ℕ) → DecodeAnswers words room x left →
     (r : Refusal) → said x ≡ no_by r → left ≡ zeros (length room.now)
 refused-zero words room x left a r e =
     let w = words.now in
@@ -269,13 +269,13 @@ refused-zero words room x left a r e =
     sym a.3 ∙ a.2.1 ∙ keeps_zeros w n (laid_out w n) (ap said (sym a.2.0) ∙ e)
 
 -- accepted: the room holds the numbers of the table, by the places of its sections, and zeros behind them
-pub accepted-room : (words : Bor (List ℕ)) (room : MutBor (List ℕ)) → 16384 ≤ length room.now → (x : Decoded) (left : List ℕ) → DecodeAnswers words room x left →
-    (modes states count : ℕ) (t : Accepted words.now modes states count) → left ≡ room_for words.now (length room.now) (Found (sections_of t.table))
+pub accepted-room : (words : Bor (List ℕ)) (room : MutBor (List ℕ)) → 16384 ≤ length room.now → (x : Decoding) (left : List ℕ) → DecodeAnswers words room x left →
+    (modes states count : ℕ) (t : Accepted words.now modes states count) → left ≡ room_for words.now (length room.now) (Ok (sections_of t.table))
 accepted-room words room enough x left a modes states count t = sym a.3 ∙ a.2.1 ∙ keeps_accepted words.now (length room.now) enough t
 
 -- the same over the table's own words
-pub table_room : (words : Bor (List ℕ)) (room : MutBor (List ℕ)) → 16384 ≤ length room.now → (x : Decoded) (left : List ℕ) → DecodeAnswers words room x left →
+pub table_room : (words : Bor (List ℕ)) (room : MutBor (List ℕ)) → 16384 ≤ length room.now → (x : Decoding) (left : List ℕ) → DecodeAnswers words room x left →
     (modes states count : ℕ) (t : Accepted words.now modes states count) →
-    room_for (words_of t.table) (length room.now) (Found (sections_of t.table)) ≡ left
+    room_for (words_of t.table) (length room.now) (Ok (sections_of t.table)) ≡ left
 table_room words room enough x left a modes states count t =
-    sym (accepted-room words room enough x left a modes states count t ∙ ap (λ v. room_for v (length room.now) (Found (sections_of t.table))) t.layout)
+    sym (accepted-room words room enough x left a modes states count t ∙ ap (λ v. room_for v (length room.now) (Ok (sections_of t.table))) t.layout)

@@ -25,8 +25,6 @@ use Rattle.list_transitions.proofs.Order.{le_cases}
 use Rattle.list_segments.specs.Segments.{cuts_of, starts, segments}
 use Rattle.list_segments.specs.Answer.{parse_for, segments_in}
 use Rattle.list_masks.specs.declared.Masks.{Masks}
-use Rattle.list_masks.specs.declared.Masks.TheVariants as variant
-use Rattle.list_masks.specs.declared.Masks.TheVariants.{Count}
 use Rattle.list_masks.specs.Masks.{bit, words_for, flat, matrix, distinct_of}
 use Rattle.list_masks.specs.Answer as masks
 use Rattle.list_masks.specs.Answer.{parse_masks, parse_distinct, masks_in, Matrix, Distinct}
@@ -41,7 +39,6 @@ use Rattle.law_rows.proofs.Flips.{segment_mask_lem, flipped}
 use Rattle.law_rows.proofs.SameRows.{same_rows, wide_searchable, escape_searchable}
 use Rattle.law_rows.proofs.Goals.{wide_given, escape_given}
 use Rattle.row_build.specs.declared.Rows.{Rows}
-use Rattle.row_build.specs.declared.Rows.TheVariants.{Built, Refused}
 use Rattle.row_build.specs.Answer.{said, Lent, lent, too_short, with_rows, parse_rows, counted, ascii_in, wide_in, escape_in, Builds}
 use Rattle.row_build.proofs.Joining.{length-numbers}
 use Rattle.row_build.proofs.Asking.{rows_asked}
@@ -49,6 +46,8 @@ use Rattle.lexer_dfa.specs.Demand3.{ListAccepted, list_of, words_per_mask, bit_a
 use Rattle.lexer_dfa.specs.Demand3.{cont_at, Placed, RowsKept, RowsIn, SameLookups, SameAnswers, SameRows, MatrixAnswers, point_bit}
 use Rattle.lexer_dfa.specs.Demand3.{MasksAsked, MasksKept, Flipped, DistinctAnswers, MasksAgree}
 use Rattle.lexer_dfa.proofs.Buffers.{padded_at, padded-front, padded-stands, searched_is, searched-front, length-distinct, bit-distinct, bit-holds}
+use Rattle.std.specs.Prelude.{Result, Ok, Err}
+use Rattle.refusal.specs.declared.Refusal.{Refusal}
 
 -- The rows of a list, as they stand in the buffers
 
@@ -98,7 +97,7 @@ module _ {ts : List Transition} {targets conts : List ℕ} {n m : ℕ} {l : Rows
 
 -- where it answers rows, they are those of a list
 module _ {n m : ℕ} {given : Lent} {seg masks : List ℕ} {l : RowsLeft} {targets conts : List ℕ} where
-  pub built_laid : (ts : List Transition) → Builds (Built n m) given seg masks l.distinct l.ascii l.wide l.escape targets conts (parsed ts) →
+  pub built_laid : (ts : List Transition) → Builds (Ok (record { wide = n; escape = m })) given seg masks l.distinct l.ascii l.wide l.escape targets conts (parsed ts) →
       Laid ts targets conts n m l
   unfolding counted masks_in ascii_in wide_in escape_in
   built_laid ts b =
@@ -116,22 +115,22 @@ module _ {n m : ℕ} {given : Lent} {seg masks : List ℕ} {l : RowsLeft} {targe
         escape_is = b.escapes;
       }
 
-  some_laid : (x : Parsed) → Builds (Built n m) given seg masks l.distinct l.ascii l.wide l.escape targets conts x →
+  some_laid : (x : Parsed) → Builds (Ok (record { wide = n; escape = m })) given seg masks l.distinct l.ascii l.wide l.escape targets conts x →
       (ts : List Transition) × Laid ts targets conts n m l
   unfolding counted
   some_laid (parsed ts) b = (ts, built_laid ts b)
   some_laid (refused k p) b = let e = b.says in let z : ◌≡◌ {A = ℕ} 0 1 = cc in absurd (omega arith)
 
 -- the answer, where the list is accepted
-record Told (targets conts : List ℕ) (ts : List Transition) (x : Rows) : Type 0 where
+record Told (targets conts : List ℕ) (ts : List Transition) (x : Result Rows Refusal) : Type 0 where
   wide : ℕ
   escape : ℕ
-  is : x ≡ Built wide escape
+  is : x ≡ Ok (record { wide = wide; escape = escape })
 
-told : {targets conts : List ℕ} {ts : List Transition} (x : Rows) → said x ≡ counted targets conts (parsed ts) → Told targets conts ts x
+told : {targets conts : List ℕ} {ts : List Transition} (x : Result Rows Refusal) → said x ≡ counted targets conts (parsed ts) → Told targets conts ts x
 unfolding counted
-told (Built n m) e = record { wide = n; escape = m; is = refl }
-told (Refused r) e = let z : ◌≡◌ {A = ℕ} 0 1 = cc in absurd (omega arith)
+told (Ok (record { wide = n; escape = m })) e = record { wide = n; escape = m; is = refl }
+told (Err r) e = let z : ◌≡◌ {A = ℕ} 0 1 = cc in absurd (omega arith)
 
 parsed_is : (x : Parsed) → is_parsed x ≡ true → x ≡ parsed (accepted x)
 unfolding is_parsed accepted
@@ -172,13 +171,13 @@ asked_parsed a q =
     q.wide_room q.escape_room
 
 -- the call's own contract, over what it left
-pub record Given (a : RowArgs) (x : Rows) (l : RowsLeft) : Type 0 where
+pub record Given (a : RowArgs) (x : Result Rows Refusal) (l : RowsLeft) : Type 0 where
   pub segments : List ℕ
   pub masks : List ℕ
   pub built : Builds x (lent_by a) segments masks l.distinct l.ascii l.wide l.escape a.targets.now a.conts.now
       (parse_rows (lent_by a) a.list.now a.targets.now a.conts.now)
 
-pub given : (a : RowArgs) (x : Rows) (l : RowsLeft) → BuildAnswers a x l → Given a x l
+pub given : (a : RowArgs) (x : Result Rows Refusal) (l : RowsLeft) → BuildAnswers a x l → Given a x l
 given a x l b = record { segments = b.1.1.1.1.0.now; masks = b.1.1.1.1.1.0.now; built = rw (b.3, b.4, b.5, b.6) at b.2 }
 
 -- Rows of an accepted list, with as many targets as it has distinct masks
@@ -197,7 +196,7 @@ module _ (w targets conts : List ℕ) (good : ListAccepted w) (each : length tar
         cont_live = λ e. cont_is s p ∙ h.cont_live e;
       }
 
-  pub laid_kept : RowsKept w targets conts (Built n m) l
+  pub laid_kept : RowsKept w targets conts (Ok (record { wide = n; escape = m })) l
   laid_kept =
       let looked = accepted_looked w good targets conts in
       record {
@@ -225,7 +224,7 @@ module _ (w targets conts : List ℕ) (good : ListAccepted w) (each : length tar
       }
 
 -- THEOREM: "For any accepted transition list and one target per distinct mask, the target looked up at each code point .."
-pub rows_kept : (a : RowArgs) → Asked a → (x : Rows) (l : RowsLeft) → BuildAnswers a x l → RowsKept a.list.now a.targets.now a.conts.now x l
+pub rows_kept : (a : RowArgs) → Asked a → (x : Result Rows Refusal) (l : RowsLeft) → BuildAnswers a x l → RowsKept a.list.now a.targets.now a.conts.now x l
 rows_kept a q x l b =
     let w = a.list.now in
     let targets = a.targets.now in
@@ -234,16 +233,16 @@ rows_kept a q x l b =
     let h = subst (λ (y : Parsed). Builds x (lent_by a) f.segments f.masks l.distinct l.ascii l.wide l.escape targets conts y)
     (asked_parsed a q) f.built in
     let t = told x h.says in
-    let g = subst (λ (y : Rows).
+    let g = subst (λ (y : Result Rows Refusal).
     Builds y (lent_by a) f.segments f.masks l.distinct l.ascii l.wide l.escape targets conts (parsed (list_of w))) t.is h in
-    subst (λ (y : Rows). RowsKept w targets conts y l) (sym t.is) (laid_kept w targets conts q.accepted q.a_target_each (built_laid (list_of w) g))
+    subst (λ (y : Result Rows Refusal). RowsKept w targets conts y l) (sym t.is) (laid_kept w targets conts q.accepted q.a_target_each (built_laid (list_of w) g))
 
 -- THEOREM: "Two builds whose rows answer the same target and continuation at every point have the same rows, number for number."
-pub rows_one : (a b : RowArgs) (n m : ℕ) (l : RowsLeft) (n' m' : ℕ) (k : RowsLeft) → BuildAnswers a (Built n m) l → BuildAnswers b (Built n' m') k →
+pub rows_one : (a b : RowArgs) (n m : ℕ) (l : RowsLeft) (n' m' : ℕ) (k : RowsLeft) → BuildAnswers a (Ok (record { wide = n; escape = m })) l → BuildAnswers b (Ok (record { wide = n'; escape = m' })) k →
     SameAnswers n m l n' m' k → SameRows n m l n' m' k
 rows_one a b n m l n' m' k x y e =
-    let f = some_laid _ (given a (Built n m) l x).built in
-    let g = some_laid _ (given b (Built n' m') k y).built in
+    let f = some_laid _ (given a (Ok (record { wide = n; escape = m })) l x).built in
+    let g = some_laid _ (given b (Ok (record { wide = n'; escape = m' })) k y).built in
     let s = f.1 in
     let t = g.1 in
     let same =
@@ -261,9 +260,9 @@ rows_one a b n m l n' m' k x y e =
     }
 
 -- THEOREM: where the rows stand in a table, `char_target` and `char_continuation` answer what was looked up in the buffers
-pub rows_in_table : (a : RowArgs) (n m : ℕ) (l : RowsLeft) → BuildAnswers a (Built n m) l → (t : Table) (s : ℕ) → RowsIn t s n m l → SameLookups t s n m l
+pub rows_in_table : (a : RowArgs) (n m : ℕ) (l : RowsLeft) → BuildAnswers a (Ok (record { wide = n; escape = m })) l → (t : Table) (s : ℕ) → RowsIn t s n m l → SameLookups t s n m l
 rows_in_table a n m l x t s i =
-    let b = (some_laid _ (given a (Built n m) l x).built).1 in
+    let b = (some_laid _ (given a (Ok (record { wide = n; escape = m })) l x).built).1 in
     let wides : n ≡ length (numbers (get_or t.wide (state_of t s).wide [])) = b.wide_count ∙ ap length (sym (wide_front b) ∙ sym i.wide) in
     let escapes : m ≡ length (numbers (table.escape_of t s).ranges) = b.escape_count ∙ ap length (sym (escape_front b) ∙ sym i.escape) in
     record {
@@ -277,11 +276,11 @@ rows_in_table a n m l x t s i =
 
 -- Masks
 
-counted_masks : {n k : ℕ} (x : Masks) → masks.said x ≡ ok (n ∷ k ∷ []) → x ≡ Count n k
-counted_masks (Count a b) e = cc
+counted_masks : {n k : ℕ} (x : Result Masks Refusal) → masks.said x ≡ ok (n ∷ k ∷ []) → x ≡ Ok (record { masks = n; words = k })
+counted_masks (Ok (record { masks = a; words = b })) e = cc
 counted_masks (variant.Refused r) e = let z : ◌≡◌ {A = ℕ} 0 1 = cc in absurd (omega arith)
 
-matrix_kept : (w : List ℕ) (x : Masks) (n k : ℕ) (s m : List ℕ) → ListAccepted w → Matrix x n s k m (parsed (list_of w)) → MasksKept w x s m
+matrix_kept : (w : List ℕ) (x : Result Masks Refusal) (n k : ℕ) (s m : List ℕ) → ListAccepted w → Matrix x n s k m (parsed (list_of w)) → MasksKept w x s m
 unfolding masks.counted segments_in masks_in
 matrix_kept w x n k s m good h =
     let ts = list_of w in
@@ -298,7 +297,7 @@ matrix_kept w x n k s m good h =
     }
 
 -- THEOREM: "Mask bit i is set where transition i holds the segment", and so at every point
-pub masks_kept : (list : Bor (List ℕ)) (segments masks : MutBor (List ℕ)) → MasksAsked list segments masks → (x : Masks) (s m : List ℕ) → MatrixAnswers list segments masks x s m →
+pub masks_kept : (list : Bor (List ℕ)) (segments masks : MutBor (List ℕ)) → MasksAsked list segments masks → (x : Result Masks Refusal) (s m : List ℕ) → MatrixAnswers list segments masks x s m →
     MasksKept list.now x s m
 masks_kept list segments masks q x s m b =
     let w = list.now in
@@ -315,9 +314,9 @@ complement_length (t ∷ ts) [] c = absurd c
 complement_length (t ∷ ts) (u ∷ us) c = ap suc (complement_length ts us c.1)
 
 -- THEOREM: "If two accepted lists are complements place by place, each transition's bit is flipped at every point."
-pub masks_flipped : (list : Bor (List ℕ)) (segments masks : MutBor (List ℕ)) → MasksAsked list segments masks → (x : Masks) (s m : List ℕ) →
+pub masks_flipped : (list : Bor (List ℕ)) (segments masks : MutBor (List ℕ)) → MasksAsked list segments masks → (x : Result Masks Refusal) (s m : List ℕ) →
     MatrixAnswers list segments masks x s m →
-    (list' : Bor (List ℕ)) (segments' masks' : MutBor (List ℕ)) → MasksAsked list' segments' masks' → (y : Masks) (s' m' : List ℕ) → MatrixAnswers list' segments' masks' y s' m' →
+    (list' : Bor (List ℕ)) (segments' masks' : MutBor (List ℕ)) → MasksAsked list' segments' masks' → (y : Result Masks Refusal) (s' m' : List ℕ) → MatrixAnswers list' segments' masks' y s' m' →
     Complement (list_of list.now) (list_of list'.now) → Flipped list.now x s m list'.now y s' m'
 masks_flipped list segments masks q x s m b list' segments' masks' q' y s' m' b' c =
     let v = list.now in
@@ -342,7 +341,7 @@ masks_flipped list segments masks q x s m b list' segments' masks' q' y s' m' b'
 
 -- the row call answers rows of a list that was read, with as many targets and continuations as it has distinct masks
 pub built_parsed : {n m : ℕ} {given : Lent} {seg masks : List ℕ} {l : RowsLeft} {targets conts : List ℕ} (x : Parsed) →
-    Builds (Built n m) given seg masks l.distinct l.ascii l.wide l.escape targets conts x → (ts : List Transition) × (x ≡ parsed ts)
+    Builds (Ok (record { wide = n; escape = m })) given seg masks l.distinct l.ascii l.wide l.escape targets conts x → (ts : List Transition) × (x ≡ parsed ts)
 unfolding counted
 built_parsed (parsed ts) b = (ts, refl)
 built_parsed (refused k p) b = let e = b.says in let z : ◌≡◌ {A = ℕ} 0 1 = cc in absurd (omega arith)
@@ -356,7 +355,7 @@ record Counted (n k : ℕ) (r : ℕ) (d : List ℕ) (x : Parsed) : Type 0 where
   stands : d ≡ padded r (flat (distinct_of ts))
 
 counted_parsed : {n k s : ℕ} {seg : List ℕ} {j : ℕ} {masks : List ℕ} (r : ℕ) {d : List ℕ} (x : Parsed)
-    → Distinct (Count n k) s seg j masks r d x → Counted n k r d x
+    → Distinct (Ok (record { masks = n; words = k })) s seg j masks r d x → Counted n k r d x
 unfolding masks.counted masks_in
 counted_parsed r (parsed ts) b = let e = b.says in record { ts = ts; is = refl; count = cc; words = cc; stands = b.leaves }
 counted_parsed r (refused k p) b = let e = b.says in let z : ◌≡◌ {A = ℕ} 0 1 = cc in absurd (omega arith)
@@ -365,18 +364,18 @@ one_list : {ts us : List Transition} → parsed ts ≡ parsed us → ts ≡ us
 one_list e = cc
 
 -- THEOREM: the masks that `distinct_masks` tells of a list are those by which `build_rows` was given targets and continuations for it
-pub masks_agree : (list : Bor (List ℕ)) (segments masks out : MutBor (List ℕ)) (n k : ℕ) (d : List ℕ) → DistinctAnswers list segments masks out (Count n k) d →
-    (a : RowArgs) (w e : ℕ) (l : RowsLeft) → BuildAnswers a (Built w e) l → a.list.now ≡ list.now → MasksAgree n k d a.targets.now a.conts.now l
+pub masks_agree : (list : Bor (List ℕ)) (segments masks out : MutBor (List ℕ)) (n k : ℕ) (d : List ℕ) → DistinctAnswers list segments masks out (Ok (record { masks = n; words = k })) d →
+    (a : RowArgs) (w e : ℕ) (l : RowsLeft) → BuildAnswers a (Ok (record { wide = w; escape = e })) l → a.list.now ≡ list.now → MasksAgree n k d a.targets.now a.conts.now l
 masks_agree list segments masks out n k d b a w e l y same =
     let bytes = list.now in
-    let f = given a (Built w e) l y in
+    let f = given a (Ok (record { wide = w; escape = e })) l y in
     let built = built_parsed _ f.built in
     let ts = built.0 in
     let asked = rows_asked (length a.targets.now) (length a.conts.now) (too_short (length a.ascii.now) (length a.wide.now)
     (length a.escape.now)) (parse_distinct (length a.segments.now) (length a.masks.now) (length a.distinct.now) a.list.now) built.1 in
     let read = ap parse (sym same)
     ∙ accepted_list (length a.segments.now) (length a.masks.now) (length a.distinct.now) a.list.now ts asked.0 in
-    let laid = built_laid ts (subst (λ (x : Parsed). Builds (Built w e) (lent_by a) f.segments f.masks l.distinct l.ascii l.wide l.escape
+    let laid = built_laid ts (subst (λ (x : Parsed). Builds (Ok (record { wide = w; escape = e })) (lent_by a) f.segments f.masks l.distinct l.ascii l.wide l.escape
     a.targets.now a.conts.now x) built.1 f.built) in
     let tells = counted_parsed (length out.now) (parse_distinct (length segments.now) (length (masks).now) (length out.now) bytes)
     (rw b.3 at b.2) in

@@ -14,12 +14,10 @@ use Rattle.refusal.specs.Lists.{pick}
 use Rattle.refusal.specs.Fixed.{NONE, DEAD-STATE}
 use Rattle.list_transitions.specs.Transition.{Transition}
 use Rattle.list_transitions.specs.Read.{Parsed, parsed, refused, parse}
-use Rattle.list_segments.specs.declared.Segments.TheVariants as segment
 use Rattle.list_segments.specs.Segments.{cuts_of, starts, starts_from}
 use Rattle.list_segments.specs.Answer as of-segments
 use Rattle.list_segments.specs.Answer.{parse_for}
 use Rattle.list_segments.proofs.Answers.{length-starts, few_segments}
-use Rattle.list_masks.specs.declared.Masks.TheVariants.{Count}
 use Rattle.list_masks.specs.Masks.{words_for, mask_of, matrix, flat, distinct_of}
 use Rattle.list_masks.specs.Answer.{parse_masks, parse_distinct}
 use Rattle.list_masks.proofs.Answers.{few_from}
@@ -31,7 +29,6 @@ use Rattle.law_rows.specs.Row.{Row, segment, row_from, row_over, join, part_from
 use Rattle.law_rows.specs.Build.{target_of, cont_of, row_of, target_row, cont_row, wide_of, escape_of}
 use Rattle.law_rows.proofs.Sizes.{length-join_to, length_part}
 use Rattle.row_build.specs.declared.Rows.{Rows}
-use Rattle.row_build.specs.declared.Rows.TheVariants.{Built}
 use Rattle.row_build.specs.Answer.{said}
 use Rattle.row_build.proofs.Joining.{length-numbers}
 use Rattle.lexer_dfa.specs.Demand3.{ListAccepted, list_of, RowArgs, RowsLeft, BuildAnswers, MatrixAnswers, DistinctAnswers}
@@ -40,6 +37,8 @@ use Rattle.lexer_dfa.proofs.Buffers.{length-distinct}
 use Rattle.lexer_dfa.proofs.RowsOf.{listed_is, rows_of, counted_by}
 use Rattle.lexer_dfa.specs.ListsRefused.{Bytes, DistinctLack, SegmentsAnswers}
 use Rattle.lexer_dfa.proofs.ListsRefused.{build_rows_refuses}
+use Rattle.std.specs.Prelude.{Result, Ok}
+use Rattle.refusal.specs.declared.Refusal.{Refusal}
 
 -- A row has no more ranges than there are segments
 
@@ -105,7 +104,7 @@ module _ (w targets conts : List ℕ) (good : ListAccepted w) where
       }
 
 -- THEOREM: and so no row call answers more numbers
-pub rows_fit : (a : RowArgs) (n m : ℕ) (l : RowsLeft) → BuildAnswers a (Built n m) l → (n ≤ 6141) × (m ≤ 6141)
+pub rows_fit : (a : RowArgs) (n m : ℕ) (l : RowsLeft) → BuildAnswers a (Ok (record { wide = n; escape = m })) l → (n ≤ 6141) × (m ≤ 6141)
 rows_fit a n m l b =
     let r = rows_of a n m l b in
     let f = list_fits a.list.now a.targets.now a.conts.now r.good in
@@ -124,13 +123,13 @@ module _ (a : RowArgs) (q : Roomy a) where
   enough_rows (inr (inl h)) = omega (arith, h, q.wide_room)
   enough_rows (inr (inr h)) = omega (arith, h, q.escape_room)
 
-  pub never_room : Bytes a.list.now → (x : Rows) (l : RowsLeft) → BuildAnswers a x l → (p : ℕ) → said x ≡ no ROOM p → ⊥
+  pub never_room : Bytes a.list.now → (x : Result Rows Refusal) (l : RowsLeft) → BuildAnswers a x l → (p : ℕ) → said x ≡ no ROOM p → ⊥
   never_room b x l r p e = ⊎_elim enough (λ h. enough_rows h.4) (((build_rows_refuses a b x l r).room p).0 e).1
 
 -- The calls for segments and masks answer no more than fits
 
 -- so many segments of a list that was read
-told-segments : {n : ℕ} (x : Parsed) → of-segments.said (segment.Count n) ≡ of-segments.counted x →
+told-segments : {n : ℕ} (x : Parsed) → of-segments.said (Ok n) ≡ of-segments.counted x →
     (ts : List Transition) × (x ≡ parsed ts) × (n ≡ length (starts (cuts_of ts)))
 unfolding of-segments.counted
 told-segments (parsed ts) e = (ts, refl, cc)
@@ -146,7 +145,7 @@ unfolding parse_masks parse_for
 all_room s n w us e = not_short (ltb s 4096) (not_short (ltb n 8192) e)
 
 -- "segments 4,096 numbers": two each
-pub segments_fit : (list : Bor (List ℕ)) (out : MutBor (List ℕ)) (n : ℕ) (left : List ℕ) → SegmentsAnswers list out (segment.Count n) left → 2 * n ≤ 4094
+pub segments_fit : (list : Bor (List ℕ)) (out : MutBor (List ℕ)) (n : ℕ) (left : List ℕ) → SegmentsAnswers list out (Ok n) left → 2 * n ≤ 4094
 unfolding parse_for
 segments_fit list out n left b =
     let w = list.now in
@@ -156,7 +155,7 @@ segments_fit list out n left b =
 
 -- "masks 8,192 64-bit words"
 pub masks_fit : (list : Bor (List ℕ)) (segments masks : MutBor (List ℕ)) (n k : ℕ) (s m : List ℕ) →
-    MatrixAnswers list segments masks (Count n k) s m → n * k ≤ 8188
+    MatrixAnswers list segments masks (Ok (record { masks = n; words = k })) s m → n * k ≤ 8188
 masks_fit list segments masks n k s m b =
     let w = list.now in
     let c = counted_by matrix (parse_masks (length segments.now) (length masks.now) w) b.2.says in
@@ -168,7 +167,7 @@ masks_fit list segments masks n k s m b =
 
 -- "distinct masks the same"
 pub distinct_fit : (list : Bor (List ℕ)) (segments masks out : MutBor (List ℕ)) (n k : ℕ) (d : List ℕ) →
-    DistinctAnswers list segments masks out (Count n k) d → n * k ≤ 8188
+    DistinctAnswers list segments masks out (Ok (record { masks = n; words = k })) d → n * k ≤ 8188
 distinct_fit list segments masks out n k d b =
     let w = list.now in
     let c = counted_by distinct_of (parse_distinct (length segments.now) (length masks.now) (length out.now) w) b.2.says in

@@ -20,7 +20,6 @@ use Rattle.list_transitions.specs.Read as transitions
 use Rattle.list_transitions.specs.Ends.{parse_into, ends_in}
 use Rattle.list_transitions.specs.declared.Transitions.{Transitions}
 use Rattle.list_transitions.proofs.Order.{le_cases}
-use Rattle.list_segments.specs.declared.Segments.{Segments}
 use Rattle.list_segments.specs.Answer.{parse_for, segments_in}
 use Rattle.list_segments.specs.Answer as segs
 use Rattle.list_masks.specs.declared.Masks.{Masks}
@@ -41,6 +40,7 @@ use Rattle.lexer_dfa.proofs.Saying.{is_ok, values_of, no_answer, by_refusal, by_
 use Rattle.lexer_dfa.proofs.UniqueRows.{and}
 use Rattle.lexer_dfa.proofs.ListRead.{Reason, short, field, order, limit, ListRead, list_read}
 use Rattle.lexer_dfa.proofs.ListRead.{list_parsed, short_parsed, field_parsed, order_parsed, limit_parsed}
+use Rattle.std.specs.Prelude.{Result}
 
 -- What a call says of a list that is read
 
@@ -255,13 +255,13 @@ not-read : (tell : Parsed → Said) → ((ts : List Transition) → is_ok (tell 
 not-read tell good (parsed ts) e h = absurd (false≢true (ap is_ok (sym h ∙ e) ∙ good ts))
 not-read tell good (refused n p) e h = (n, p, refl)
 
-pub read_transitions_refuses : (list : Bor (List ℕ)) → Bytes list.now → (x : Transitions) → TransitionsAnswers list x →
+pub read_transitions_refuses : (list : Bor (List ℕ)) → Bytes list.now → (x : Result Transitions Refusal) → TransitionsAnswers list x →
     ListRefused transitions_ask list.now (transitions.said x) [] []
 unfolding transitions.counted
 read_transitions_refuses list b x a =
     list_refused b (called transitions.counted (enough (λ z. z) refl) a.2 (λ n p. refl) (λ ts. no_targets refl) (λ r h. refl))
 
-pub read_intervals_refuses : (list : Bor (List ℕ)) (out : MutBor (List ℕ)) → Bytes list.now → (x : Transitions) (left : List ℕ) →
+pub read_intervals_refuses : (list : Bor (List ℕ)) (out : MutBor (List ℕ)) → Bytes list.now → (x : Result Transitions Refusal) (left : List ℕ) →
     IntervalsAnswers list out x left →
     ListRefused (intervals_ask (length out.now)) list.now (transitions.said x) (out.now ∷ []) (left ∷ [])
 unfolding transitions.counted parse_into ends_in
@@ -272,7 +272,7 @@ read_intervals_refuses list out b x left a =
     let q = not-read transitions.counted (λ ts. refl) (parse_into (length out.now) list.now) a.2.says h in
     and (sym a.3 ∙ a.2.leaves ∙ ap (ends_in (length out.now)) q.2) refl))
 
-pub char_segments_refuses : (list : Bor (List ℕ)) (out : MutBor (List ℕ)) → Bytes list.now → (x : Segments) (left : List ℕ) → SegmentsAnswers list out x left →
+pub char_segments_refuses : (list : Bor (List ℕ)) (out : MutBor (List ℕ)) → Bytes list.now → (x : Result ℕ Refusal) (left : List ℕ) → SegmentsAnswers list out x left →
     ListRefused (segments_ask (length out.now)) list.now (segs.said x) (out.now ∷ []) (left ∷ [])
 unfolding segs.counted parse_for segments_in
 char_segments_refuses list out b x left a =
@@ -282,7 +282,7 @@ char_segments_refuses list out b x left a =
     let q = not-read segs.counted (λ ts. refl) (parse_for (length out.now) list.now) a.2.says h in
     and (sym a.3 ∙ a.2.leaves ∙ ap (segments_in (length out.now)) q.2) refl))
 
-pub segment_mask_matrix_refuses : (list : Bor (List ℕ)) (segments masks : MutBor (List ℕ)) → Bytes list.now → (x : Masks) (s m : List ℕ) →
+pub segment_mask_matrix_refuses : (list : Bor (List ℕ)) (segments masks : MutBor (List ℕ)) → Bytes list.now → (x : Result Masks Refusal) (s m : List ℕ) →
     MatrixAnswers list segments masks x s m →
     ListRefused (matrix_asks (length segments.now) (length masks.now)) list.now (mask.said x) (segments.now ∷ masks.now ∷ []) (s ∷ m ∷ [])
 unfolding mask.counted parse_for parse_masks segments_in masks_in
@@ -296,7 +296,7 @@ segment_mask_matrix_refuses list segments masks b x s m a =
     and (sym a.3 ∙ a.2.low_high ∙ ap (segments_in long) q.2) (and (sym a.4 ∙ a.2.leaves ∙ ap (masks_in matrix wide) q.2) refl)))
 
 -- `a.1` is the arguments at exit, of which `DistinctAnswers` names the last
-pub distinct_masks_refuses : (list : Bor (List ℕ)) (segments masks out : MutBor (List ℕ)) → Bytes list.now → (x : Masks) (d : List ℕ) →
+pub distinct_masks_refuses : (list : Bor (List ℕ)) (segments masks out : MutBor (List ℕ)) → Bytes list.now → (x : Result Masks Refusal) (d : List ℕ) →
     (a : DistinctAnswers list segments masks out x d) →
     ListRefused (distinct_asks (length segments.now) (length masks.now) (length out.now)) list.now (mask.said x)
     (segments.now ∷ masks.now ∷ out.now ∷ []) (a.1.1.0.now ∷ a.1.1.1.0.now ∷ d ∷ [])
@@ -357,7 +357,7 @@ module _ (a : RowArgs) where
       go false i g j h k = differing (λ e. eqb-false t d i e.0) refl
 
 -- `r.1` is the arguments at exit, of which `BuildAnswers` names the last four
-pub build_rows_refuses : (a : RowArgs) → Bytes a.list.now → (x : Rows) (l : RowsLeft) → (r : BuildAnswers a x l) →
+pub build_rows_refuses : (a : RowArgs) → Bytes a.list.now → (x : Result Rows Refusal) (l : RowsLeft) → (r : BuildAnswers a x l) →
     ListRefused (rows_ask a) a.list.now (row.said x)
     (a.segments.now ∷ a.masks.now ∷ a.distinct.now ∷ a.ascii.now ∷ a.wide.now ∷ a.escape.now ∷ [])
     (r.1.1.1.1.0.now ∷ r.1.1.1.1.1.0.now ∷ l.distinct ∷ l.ascii ∷ l.wide ∷ l.escape ∷ [])

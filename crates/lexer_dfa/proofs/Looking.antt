@@ -12,12 +12,9 @@ use Rattle.run_shape.specs.Shape.{none}
 use Rattle.run_shape.specs.Classify.{classification}
 use Rattle.run_shape.specs.Scan.{skipped, scan_said, scanned_by}
 use Rattle.run_classify.proofs.Described.{run_said}
-use Rattle.look_scan.specs.declared.StateScan.{StateScan}
-use Rattle.look_scan.specs.declared.StateScan.TheVariants.{NoRun}
 use Rattle.look_scan.specs.StateScan as scan
 use Rattle.look_runs.specs.StateRun.{ascii_run, skipped_by}
 use Rattle.look_scan.proofs.Answers.{said_one}
-use Rattle.room_decode.specs.declared.Decoded.{Decoded}
 use Rattle.room_decode.specs.Decode.{said}
 use Rattle.law_tables.specs.Rules.{row_of}
 use Rattle.law_tables.specs.Whole.{Fit}
@@ -28,9 +25,13 @@ use Rattle.law_lookups.proofs.Rooms.{room_looks, room_never}
 use Rattle.lexer_dfa.specs.Demands.{DecodeAnswers, Accepted, AsciiOnly, LoopsOn, ScansLongest, state_tells, StateScanAnswers, StateScanLengthAnswers}
 use Rattle.lexer_dfa.proofs.Demand2.{run_is_longest}
 use Rattle.lexer_dfa.proofs.Decoding.{decode_accepts, table_room}
+use Rattle.std.specs.Prelude.{Result, Option}
+use Rattle.room_decode.specs.Decode.{Decoding}
+use Rattle.run_shape.specs.declared.AsciiRunScan.{AsciiRunScan}
+use Rattle.refusal.specs.declared.Refusal.{Refusal}
 
 -- where decode accepts, lookups on the room give what the table says, and NOT-TABLE is "never met"
-pub decoded_looks : (words : Bor (List ℕ)) (room : MutBor (List ℕ)) → Fit words.now → 16384 ≤ length room.now → (x : Decoded) (left : List ℕ) →
+pub decoded_looks : (words : Bor (List ℕ)) (room : MutBor (List ℕ)) → Fit words.now → 16384 ≤ length room.now → (x : Decoding) (left : List ℕ) →
     DecodeAnswers words room x left →
     (modes states count : ℕ) → said x ≡ ok (modes ∷ states ∷ count ∷ []) → (a : Accepted words.now modes states count) × Looks a.table left × Never left
 decoded_looks words room f enough x left d modes states count e =
@@ -47,11 +48,11 @@ none_said bs = refl
 
 -- "Over ASCII-only bytes, a state's run, where it has one, is the longest front part on which it loops": the scans by the run of a state, in any room that has
 -- the numbers that decode left
-pub state_scan_is_longest : (words : Bor (List ℕ)) (room : MutBor (List ℕ)) → Fit words.now → 16384 ≤ length room.now → (x : Decoded) (left : List ℕ) →
+pub state_scan_is_longest : (words : Bor (List ℕ)) (room : MutBor (List ℕ)) → Fit words.now → 16384 ≤ length room.now → (x : Decoding) (left : List ℕ) →
     DecodeAnswers words room x left →
     (modes states count : ℕ) → said x ≡ ok (modes ∷ states ∷ count ∷ []) →
     (lent : Bor (List ℕ)) → lent.now ≡ left → (s : ℕ) → s < states → (input : Bor (List ℕ)) → AsciiOnly input.now →
-    (part : Bor (List ℕ)) → StateScanAnswers lent s input part → (says : StateScan) → StateScanLengthAnswers lent s input says → (says ≡ NoRun → ⊥) →
+    (part : Bor (List ℕ)) → StateScanAnswers lent s input part → (says : Result (Option AsciiRunScan) Refusal) → StateScanLengthAnswers lent s input says → (says ≡ Ok None → ⊥) →
     (a : Accepted words.now modes states count) × ScansLongest state_tells (LoopsOn s (row_of a.table s)) input part says
 state_scan_is_longest words room f enough x left d modes states count e lent is s there input ascii part p says q some =
     let h = decoded_looks words room f enough x left d modes states count e in
@@ -66,7 +67,7 @@ state_scan_is_longest words room f enough x left d modes states count e lent is 
     q.2 ∙ ap (λ w. scanned_by (ascii_run w s) bs) is ∙ looks.scan s bs ∙ ap (λ b. pick b (scan_said c bs) (no STATE 0)) (lt-ltb _ _ l) in
     let skips : skipped_by (ascii_run lent.now s) bs ≡ n =
     ap (λ w. skipped_by (ascii_run w s) bs) is ∙ looks.scan_part s bs ∙ ap (λ b. pick b n 0) (lt-ltb _ _ l) in
-    let runs : c ≡ none → ⊥ = λ u. some (said_one says NoRun (told ∙ ap (λ r. scan_said r bs) u ∙ none_said bs)) in (
+    let runs : c ≡ none → ⊥ = λ u. some (said_one says Ok None (told ∙ ap (λ r. scan_said r bs) u ∙ none_said bs)) in (
       a,
       record {
         bytes = n;

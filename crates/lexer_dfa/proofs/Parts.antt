@@ -11,27 +11,24 @@ use Rattle.std.specs.Borrow.{Bor}
 use borrow.Author.Tests.{ltb-true, leb-true}
 use Rattle.refusal.specs.Said.{ok, no, NOT-TABLE}
 use Rattle.refusal.specs.Lists.{pick, each}
-use Rattle.room_find.specs.declared.Found.{Found}
-use Rattle.room_find.specs.declared.Found.TheVariants.{At, Absent, Outside}
 use Rattle.room_find.specs.declared.Span.{Span}
 use Rattle.room_find.specs.Room.{words_end, listed_at, follow}
 use Rattle.room_find.proofs.Records.{held, listed_lies}
 use Rattle.law_tables.specs.Table.{Action, Config, action_words, config_words}
 use Rattle.look_accepts.specs.declared.AcceptRecord.{AcceptRecord}
-use Rattle.look_accepts.specs.declared.AcceptRecord.TheVariants as accept
 use Rattle.look_accepts.specs.Record as accepts
 use Rattle.look_accepts.proofs.AcceptLaws.{record_said_one}
 use Rattle.look_accepts.proofs.RecordLaws.{whole}
 use Rattle.look_continuation_records.specs.declared.Whole.{Whole}
-use Rattle.look_continuation_records.specs.declared.Whole.TheVariants as found
 use Rattle.look_continuation_records.specs.declared.ContinuationRecord.{ContinuationRecord}
-use Rattle.look_continuation_records.specs.declared.ContinuationRecord.TheVariants as continuation
 use Rattle.look_continuation_records.specs.Configs as configs
 use Rattle.look_continuation_records.proofs.WholeLaws.{lies, said_one}
 use Rattle.look_parts.proofs.Laws.{actions_in, contexts_in, configs_in}
 use Rattle.law_lookups.specs.Looks.{part}
 use Rattle.lexer_dfa.specs.Parts.{AcceptRecordAnswers, AcceptActionsAnswers, ContinuationRecordAnswers, ContextsAnswers, ConfigsAnswers}
 use Rattle.lexer_dfa.specs.Parts.{AcceptActionsSpanAnswers, ContextsSpanAnswers, ConfigsSpanAnswers, ActionsOf, PartsOf, Names}
+use Rattle.std.specs.Prelude.{Result}
+use Rattle.room_find.specs.declared.Missing.{Missing}
 
 -- The numbers of a list from a place on
 
@@ -55,11 +52,11 @@ module _ (w : List ℕ) where
 -- Accepts
 
 module _ (w : List ℕ) (i : ℕ) where
-  no_actions : {x : AcceptRecord} {actions : List ℕ} → actions ≡ [] → ((rule k : ℕ) (flag : Bool) → x ≡ accept.Record rule flag k → ⊥) → ActionsOf x w actions
+  no_actions : {x : Result AcceptRecord Missing} {actions : List ℕ} → actions ≡ [] → ((rule k : ℕ) (flag : Bool) → x ≡ accept.Record rule flag k → ⊥) → ActionsOf x w actions
   no_actions q n = record { not_table_lem = λ z. q; no_record = λ z. q; of_record = λ rule k flag z. absurd (n rule k flag z) }
 
   -- by what is found
-  actions_of : (x : AcceptRecord) (actions : List ℕ) (y : Found) → accepts.record_at w i ≡ y →
+  actions_of : (x : Result AcceptRecord Missing) (actions : List ℕ) (y : Result ℕ Missing) → accepts.record_at w i ≡ y →
       accepts.said x ≡ follow y (λ p. ok (get_or w p 0 ∷ pick (not (eqb (get_or w (p + 1) 0) 0)) 1 0 ∷ get_or w (p + 2) 0 ∷ [])) (ok []) (no NOT-TABLE 0) →
       actions ≡ take (follow y (λ p. get_or w (p + 2) 0 * 3) 0 0) (drop (follow y (λ p. p + 3) 0 0) w) → ActionsOf x w actions
   unfolding follow
@@ -94,14 +91,14 @@ module _ (w : List ℕ) (i : ℕ) where
   actions_of x actions Outside e s q = no_actions q (λ rule k flag z. let c = sym s ∙ ap accepts.said z in let o : ◌≡◌ {A = ℕ} 0 1 = cc in omega arith)
 
 -- the part of an accept's actions: empty where the room is refused or has no such record, and else the record's
-pub accept_parts : (room : Bor (List ℕ)) (number : ℕ) (x : AcceptRecord) → AcceptRecordAnswers room number x →
+pub accept_parts : (room : Bor (List ℕ)) (number : ℕ) (x : Result AcceptRecord Missing) → AcceptRecordAnswers room number x →
     (actions : Bor (List ℕ)) → AcceptActionsAnswers room number actions → ActionsOf x room.now actions.now
 accept_parts room number x a actions p = actions_of room.now number x actions.now (accepts.record_at room.now number) refl a.2 p.2.numbers
 
 -- Continuations
 
 -- where one step led on, and where it could not
-onward : {A : Type 0} (x : Found) (k : ℕ → A) (a o t : A) → (a ≡ t → ⊥) → (o ≡ t → ⊥) → follow x k a o ≡ t → (q : ℕ) × (x ≡ At q) × (k q ≡ t)
+onward : {A : Type 0} (x : Result ℕ Missing) (k : ℕ → A) (a o t : A) → (a ≡ t → ⊥) → (o ≡ t → ⊥) → follow x k a o ≡ t → (q : ℕ) × (x ≡ At q) × (k q ≡ t)
 unfolding follow
 onward (At q) k a o t f g h = (q, refl, h)
 onward Absent k a o t f g h = absurd (f h)
@@ -152,7 +149,7 @@ walked_whole : (w : List ℕ) (i : ℕ) {p q z : ℕ} → configs.whole_at w i �
 unfolding configs.whole_at configs.whole_from configs.whole_behind
 walked_whole w i {p} {q} {z} h =
     let e = words_end w in
-    let t : Whole = found.Spans p q z in
+    let t : Result Whole Missing = found.Spans p q z in
     let a = onward (listed_at w 8 i) (configs.whole_from w e) found.Absent found.Outside t absent_span no_span h in
     let b = onward (configs.past_contexts e a.0 (get_or w a.0 0)) (configs.whole_behind w e a.0) found.Outside found.Outside t no_span no_span a.2 in
     let c = onward (configs.past_configs w e (get_or w b.0 0) (b.0 + 1)) (found.Spans a.0 b.0) found.Outside found.Outside t no_span no_span b.2 in
@@ -225,11 +222,11 @@ configs_are w e l (suc n) p z h k =
     )
 
 module _ (w : List ℕ) (i : ℕ) where
-  no_parts : {x : ContinuationRecord} {cs ds : List ℕ} → cs ≡ [] → ds ≡ [] → ((n m : ℕ) → x ≡ continuation.Record n m → ⊥) → PartsOf x w cs ds
+  no_parts : {x : Result ContinuationRecord Missing} {cs ds : List ℕ} → cs ≡ [] → ds ≡ [] → ((n m : ℕ) → x ≡ continuation.Record n m → ⊥) → PartsOf x w cs ds
   no_parts c d f = record { not_table_lem = λ z. (c, d); no_record = λ z. (c, d); of_record = λ n m z. absurd (f n m z) }
 
   -- by what is found
-  parts_of : (x : ContinuationRecord) (cs ds : List ℕ) (y : Whole) → configs.whole_at w i ≡ y →
+  parts_of : (x : Result ContinuationRecord Missing) (cs ds : List ℕ) (y : Result Whole Missing) → configs.whole_at w i ≡ y →
       configs.said x ≡ configs.of_whole y (λ p q z. ok (get_or w p 0 ∷ get_or w q 0 ∷ [])) (ok []) (no NOT-TABLE 0) →
       cs ≡ take (configs.of_whole y (λ p q z. q - (p + 1)) 0 0) (drop (configs.of_whole y (λ p q z. p + 1) 0 0) w) →
       ds ≡ take (configs.of_whole y (λ p q z. z - (q + 1)) 0 0) (drop (configs.of_whole y (λ p q z. q + 1) 0 0) w) → PartsOf x w cs ds
@@ -266,7 +263,7 @@ module _ (w : List ℕ) (i : ℕ) where
   parts_of x cs ds found.Outside e s c d = no_parts c d (λ n m z. let t = sym s ∙ ap configs.said z in let o : ◌≡◌ {A = ℕ} 0 1 = cc in omega arith)
 
 -- the parts of a continuation: empty where the room is refused or has no such record, and else the record's
-pub continuation_parts : (room : Bor (List ℕ)) (number : ℕ) (x : ContinuationRecord) → ContinuationRecordAnswers room number x →
+pub continuation_parts : (room : Bor (List ℕ)) (number : ℕ) (x : Result ContinuationRecord Missing) → ContinuationRecordAnswers room number x →
     (cs : Bor (List ℕ)) → ContextsAnswers room number cs → (ds : Bor (List ℕ)) → ConfigsAnswers room number ds →
     PartsOf x room.now cs.now ds.now
 continuation_parts room number x a cs c ds d =

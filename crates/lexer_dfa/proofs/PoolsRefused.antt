@@ -18,13 +18,13 @@ use Rattle.buffer.specs.Over.{lay}
 use Rattle.buffer.proofs.Overs.{over-front}
 use Rattle.law_tables.specs.Whole.{Fit}
 use Rattle.list_transitions.proofs.Order.{le_cases}
-use Rattle.pool_rows.specs.declared.Interned.{Interned}
 use Rattle.pool_rows.specs.Pools.{Kind, ascii, wide, standing, rows_from, after_rows, good, countable, Outcome, found, appended, refused}
 use Rattle.pool_rows.specs.Pools.{append, first_in, find_or_append, intern, said, outcome_said, left_in}
 use Rattle.lexer_dfa.specs.PoolsRefused.{Stand, RowAllowed, FirstEqual, NoneEqual, CanTake, InternedBy, InternAsciiAnswers, InternWideAnswers}
 use Rattle.lexer_dfa.proofs.Saying.{values_of, no_answer, by_refusal, by_number, choose}
 use Rattle.lexer_dfa.proofs.PoolRows.{stand_rows, stand_end, stand_after, stands, good_allowed, allowed_good}
 use Rattle.lexer_dfa.proofs.PoolRows.{first_there, none-there, first_one, takes, took, can_count, uncounted}
+use Rattle.std.specs.Prelude.{Result, None}
 
 -- numbers that are laid behind others, over what stood there
 laid_behind : (front rest new : List ℕ) (n : ℕ) → length front ≡ n → length new ≤ length rest
@@ -257,13 +257,13 @@ module _ (k : Kind) (w : List ℕ) (n : ℕ) (row : List ℕ) where
     }
 
 -- THEOREM: "one numbered refusal, given on the stated condition and never otherwise"; "a row pool stays as it stood"
-pub intern_ascii_refuses : (pool : MutBor (List ℕ)) (rows : ℕ) (row : Bor (List ℕ)) (x : Interned) (left : List ℕ) →
+pub intern_ascii_refuses : (pool : MutBor (List ℕ)) (rows : ℕ) (row : Bor (List ℕ)) (x : Result ℕ Refusal) (left : List ℕ) →
     InternAsciiAnswers pool rows row x left → InternedBy ascii pool.now rows row.now (said x) left
 intern_ascii_refuses pool rows row x left a =
     interned ascii pool.now rows row.now (λ c. absurd (false≢true (sym c))) a.2.says (sym a.3 ∙ a.2.leaves)
 
 -- .. where the pool's numbers have 32 bits, as the type u32 says
-pub intern_wide_refuses : (pool : MutBor (List ℕ)) (rows : ℕ) (row : Bor (List ℕ)) → Fit pool.now → (x : Interned) (left : List ℕ) →
+pub intern_wide_refuses : (pool : MutBor (List ℕ)) (rows : ℕ) (row : Bor (List ℕ)) → Fit pool.now → (x : Result ℕ Refusal) (left : List ℕ) →
     InternWideAnswers pool rows row x left → InternedBy wide pool.now rows row.now (said x) left
 intern_wide_refuses pool rows row f x left a =
     interned wide pool.now rows row.now (λ c. uncounted wide row.now f c) a.2.says (sym a.3 ∙ a.2.leaves)

@@ -15,8 +15,6 @@ use Rattle.refusal.specs.declared.Refusal.{Refusal}
 use Rattle.refusal.specs.Said.{Said, refusal_at, ok, no_by, no, NOT-TABLE, ROOM}
 use Rattle.buffer.specs.Written.{said}
 use Rattle.buffer.specs.Over.{zeros}
-use Rattle.room_decode.specs.declared.Decoded.{Decoded}
-use Rattle.room_decode.specs.declared.Decoded.TheVariants.{Table, Refused}
 use Rattle.room_decode.specs.Decode.{decode_of, room_of}
 use Rattle.room_decode.specs.Decode as decoding
 use Rattle.room_judge.specs.Judge.{words_part, accepted, is_table}
@@ -30,16 +28,18 @@ use Rattle.law_tables.proofs.Normal.{normal_size}
 use Rattle.law_round_trip.proofs.RoundTrip.{round_trip, left-held}
 use Rattle.lexer_dfa.specs.Demands.{DecodeAnswers, EncodeAnswers, RoundTrip, Leaves, EncodedBy}
 use Rattle.std.specs.Prelude.{Result, Err}
+use Rattle.std.specs.Prelude.{Ok}
+use Rattle.room_decode.specs.Decode.{Decoding}
 
 -- There and back
 
 -- an answer that says a table's counts is a table
-pub said-accepted : (x : Decoded) {l : List ℕ} → decoding.said x ≡ ok l → accepted x ≡ true
-said-accepted (Table m s w) e = refl
+pub said-accepted : (x : Decoding) {l : List ℕ} → decoding.said x ≡ ok l → accepted x ≡ true
+said-accepted (Ok (record { modes = m; states = s; words = w })) e = refl
 said-accepted (Err r) e = let z : ◌≡◌ {A = ℕ} 0 1 = cc in absurd (omega arith)
 
-accepted-said : (x : Decoded) → accepted x ≡ true → (m : ℕ) × (s : ℕ) × (w : ℕ) × (decoding.said x ≡ ok (m ∷ s ∷ w ∷ []))
-accepted-said (Table m s w) e = (m, s, w, refl)
+accepted-said : (x : Decoding) → accepted x ≡ true → (m : ℕ) × (s : ℕ) × (w : ℕ) × (decoding.said x ≡ ok (m ∷ s ∷ w ∷ []))
+accepted-said (Ok (record { modes = m; states = s; words = w })) e = (m, s, w, refl)
 accepted-said (Err r) e = absurd (false≢true e)
 
 -- the words that are left in a room are as many as were decoded into it
@@ -47,7 +47,7 @@ trip_size : {w : List ℕ} {n : ℕ} (t : Trip w n) → length (words_of (normal
 trip_size t = normal_size t.table ∙ ap length (sym t.words)
 
 -- "Encoding the result gives the same words with nonzero flags made 1; decoding that gives the same table."
-pub there_and_back : (words : Bor (List ℕ)) (room : MutBor (List ℕ)) → Fit words.now → (x : Decoded) (d : List ℕ) → DecodeAnswers words room x d →
+pub there_and_back : (words : Bor (List ℕ)) (room : MutBor (List ℕ)) → Fit words.now → (x : Decoding) (d : List ℕ) → DecodeAnswers words room x d →
     (modes states count : ℕ) → decoding.said x ≡ ok (modes ∷ states ∷ count ∷ []) → RoundTrip words.now (length room.now) x d
 there_and_back words room f x d a modes states count h =
     let w = words.now in

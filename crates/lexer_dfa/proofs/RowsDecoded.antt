@@ -9,21 +9,20 @@ use Rattle.std.specs.Borrow.{Bor, MutBor}
 use borrow.Author.Tests.{lt-ltb}
 use Rattle.refusal.specs.Said.{Said, ok, no, STATE}
 use Rattle.refusal.specs.Lists.{pick}
-use Rattle.room_find.specs.declared.Answer.{Answer}
-use Rattle.room_find.specs.declared.Answer.TheVariants.{Number}
 use Rattle.room_find.proofs.Answers.{said_one}
-use Rattle.room_decode.specs.declared.Decoded.{Decoded}
 use Rattle.room_decode.specs.Decode.{said}
 use Rattle.law_tables.specs.Table.{Table, words_of, Fields}
 use Rattle.law_tables.specs.Whole.{Fit}
 use Rattle.law_lookups.specs.Looks.{of_state, Looks}
-use Rattle.row_build.specs.declared.Rows.TheVariants.{Built}
 use Rattle.lexer_dfa.specs.Demands.{DecodeAnswers}
 use Rattle.lexer_dfa.specs.Demand3.{RowArgs, RowsLeft, BuildAnswers, target_at, cont_at, Placed, Dead, RowsIn}
 use Rattle.lexer_dfa.specs.RowsDecoded.{PlacedAs, DeadAs, TargetAnswers, ContinuationAnswers, BothAnswer, LookedUp}
 use Rattle.lexer_dfa.proofs.TableDecoded.{state_there, table_looked}
 use Rattle.lexer_dfa.proofs.Demand3.{rows_in_table}
 use Rattle.lexer_dfa.proofs.RowsOf.{built_kept}
+use Rattle.std.specs.Prelude.{Result, Ok}
+use Rattle.room_decode.specs.Decode.{Decoding}
+use Rattle.room_find.specs.declared.Missing.{Missing}
 
 -- what is placed in the buffers is so of what is looked up there
 placed_as : {w targets conts : List ℕ} {n m : ℕ} {l : RowsLeft} {p : ℕ} → Placed w targets conts n m l p →
@@ -42,18 +41,18 @@ dead_as : {n m : ℕ} {l : RowsLeft} {p : ℕ} → Dead n m l p → DeadAs (targ
 dead_as h = record { target = h.target; cont = h.cont }
 
 -- the rows stand in a table as those of a state that it has, and a room gives what the table says
-module _ (a : RowArgs) (n m : ℕ) (l : RowsLeft) (b : BuildAnswers a (Built n m) l) (t : Table) (s : ℕ) (there : s < length t.states)
+module _ (a : RowArgs) (n m : ℕ) (l : RowsLeft) (b : BuildAnswers a (Ok (record { wide = n; escape = m })) l) (t : Table) (s : ℕ) (there : s < length t.states)
     (rows : RowsIn t s n m l) (room : Bor (List ℕ)) (looks : Looks t room.now) where
   of_state_lem : (k : ℕ) → of_state t s k ≡ ok (k ∷ [])
   of_state_lem k = ap {B = Said} (λ (c : Bool). pick c (ok (k ∷ [])) (no STATE 0)) (lt-ltb s (length t.states) there)
 
-  target_told : (p : ℕ) (x : Answer) → TargetAnswers room s p x → x ≡ Number (target_at l n p)
+  target_told : (p : ℕ) (x : Result ℕ Missing) → TargetAnswers room s p x → x ≡ Ok (target_at l n p)
   target_told p x q =
-      said_one x (Number (target_at l n p)) (q.2 ∙ looks.char_target_lem s p ∙ (rows_in_table a n m l b t s rows).target p ∙ of_state_lem (target_at l n p))
+      said_one x (Ok (target_at l n p)) (q.2 ∙ looks.char_target_lem s p ∙ (rows_in_table a n m l b t s rows).target p ∙ of_state_lem (target_at l n p))
 
-  cont_told : (p : ℕ) (x : Answer) → ContinuationAnswers room s p x → x ≡ Number (cont_at l m p)
+  cont_told : (p : ℕ) (x : Result ℕ Missing) → ContinuationAnswers room s p x → x ≡ Ok (cont_at l m p)
   cont_told p x q =
-      said_one x (Number (cont_at l m p)) (q.2 ∙ looks.char_continuation_lem s p ∙ (rows_in_table a n m l b t s rows).cont p ∙ of_state_lem (cont_at l m p))
+      said_one x (Ok (cont_at l m p)) (q.2 ∙ looks.char_continuation_lem s p ∙ (rows_in_table a n m l b t s rows).cont p ∙ of_state_lem (cont_at l m p))
 
   both : (p : ℕ) (P : ℕ → ℕ → Type 0) {n' m' : ℕ} → n' ≡ n → m' ≡ m → P (target_at l n' p) (cont_at l m' p) → BothAnswer room s p P
   both p P {n'} {m'} i j h x y c d = (
@@ -78,8 +77,8 @@ module _ (a : RowArgs) (n m : ℕ) (l : RowsLeft) (b : BuildAnswers a (Built n m
 -- THEOREM: rows were built; the words of a table t, whose fields are allowed, were decoded; and the rows are those of its state s. Then in any room that has
 -- the numbers that decode left, `char_target` and `char_continuation` answer at each point the target and the continuation given for exactly the transitions
 -- that hold it, and dead and NONE where none does. Words tell their table, so that t is the one that was decoded
-pub rows_decoded : (a : RowArgs) (n m : ℕ) (l : RowsLeft) → BuildAnswers a (Built n m) l →
-    (words : Bor (List ℕ)) (room : MutBor (List ℕ)) → Fit words.now → 16384 ≤ length room.now → (x : Decoded) (left : List ℕ) →
+pub rows_decoded : (a : RowArgs) (n m : ℕ) (l : RowsLeft) → BuildAnswers a (Ok (record { wide = n; escape = m })) l →
+    (words : Bor (List ℕ)) (room : MutBor (List ℕ)) → Fit words.now → 16384 ≤ length room.now → (x : Decoding) (left : List ℕ) →
     DecodeAnswers words room x left →
     (modes states count : ℕ) → said x ≡ ok (modes ∷ states ∷ count ∷ []) →
     (t : Table) → words.now ≡ words_of t → Fields t → (s : ℕ) → s < states → RowsIn t s n m l →

@@ -6,8 +6,6 @@ use mathlib.Core.List.{List, [], ◌∷◌, ◌++◌}
 use lib.ListN.{length, take}
 use Rattle.std.specs.Borrow.{Bor, MutBor}
 use Rattle.refusal.specs.Said.{Said, ok, no}
-use Rattle.run_shape.specs.declared.Run.{Run}
-use Rattle.run_shape.specs.declared.RunAnswer.{RunAnswer}
 use Rattle.run_shape.specs.declared.RunWords.{RunWords}
 use Rattle.run_shape.specs.Shape.{Got, run, refused, shape, answered, got_said}
 use Rattle.run_shape.specs.Classify.{classified}
@@ -16,7 +14,6 @@ use Rattle.run_shape.proofs.Answers as run_answers
 use Rattle.room_decode.specs.Decode as codec
 use Rattle.list_transitions.specs.Read as of_list
 use Rattle.list_transitions.specs.Read.{parse}
-use Rattle.list_segments.specs.declared.Segments.{Segments}
 use Rattle.list_segments.specs.Answer as of_segments
 use Rattle.list_segments.specs.Answer.{parse_for}
 use Rattle.list_masks.specs.declared.Masks.{Masks}
@@ -32,43 +29,47 @@ use Rattle.lexer_dfa.specs.Sheet.{first_of, product_of, segments_said, masks_sai
 use Rattle.lexer_dfa.specs.SheetCalled.{OfRun, ClassifiedThen, WordsSay, ScanSays, Answers, RightCalled}
 use Rattle.lexer_dfa.proofs.Demand3.{given}
 use Rattle.lexer_dfa.proofs.Examples.{wildcards, sheet_right, limits_right}
+use Rattle.std.specs.Prelude.{Result}
+use Rattle.run_shape.specs.Shape.{Got}
+use Rattle.run_shape.specs.declared.AsciiRun.{AsciiRun}
+use Rattle.refusal.specs.declared.Refusal.{Refusal}
 
 -- By the run that was classified
 
-of_got : (P : Run → Said → Type 0) (f : Got → Said) → ((r : Run) (s : Said) → P r s → s ≡ f (run r)) → ((n p : ℕ) → no n p ≡ f (refused n p)) →
+of_got : (P : AsciiRun → Said → Type 0) (f : Got → Said) → ((r : AsciiRun) (s : Said) → P r s → s ≡ f (run r)) → ((n p : ℕ) → no n p ≡ f (refused n p)) →
     (g : Got) (s : Said) → OfRun P (answered g).answer (answered g).ranges s → s ≡ f g
 of_got P f h k (run r) s o = h r s o
 of_got P f h k (refused n p) s o = o ∙ k n p
 
-then_said : (P : Run → Said → Type 0) (f : Got → Said) → ((r : Run) (s : Said) → P r s → s ≡ f (run r)) → ((n p : ℕ) → no n p ≡ f (refused n p)) →
+then_said : (P : AsciiRun → Said → Type 0) (f : Got → Said) → ((r : AsciiRun) (s : Said) → P r s → s ≡ f (run r)) → ((n p : ℕ) → no n p ≡ f (refused n p)) →
     (row : List ℕ) (state : ℕ) (s : Said) → ClassifiedThen row state P s → s ≡ f (classified state row)
 then_said P f h k row state s (r, x, c, o) =
     let g = classified state r.0.now in
-    of_got P f h k g s (subst (λ (y : RunAnswer). OfRun P y.answer y.ranges s) (run_answers.given g c.2) o)
+    of_got P f h k g s (subst (λ (y : Got). OfRun P y.answer y.ranges s) (run_answers.given g c.2) o)
     ∙ ap (λ (l : List ℕ). f (classified state l)) r.1
 
-words_said_lem : (r : Run) (s : Said) → WordsSay r s → s ≡ words_said (run r)
+words_said_lem : (r : AsciiRun) (s : Said) → WordsSay r s → s ≡ words_said (run r)
 words_said_lem r s (x, a, e) = e ∙ ap {B = Said} (λ (y : RunWords). ok (word_list y)) a.2
 
-scan_said_lem : (bytes : List ℕ) (r : Run) (s : Said) → ScanSays bytes r s → s ≡ scanned_by (run r) bytes
+scan_said_lem : (bytes : List ℕ) (r : AsciiRun) (s : Said) → ScanSays bytes r s → s ≡ scanned_by (run r) bytes
 scan_said_lem bytes r s (input, x, a, e) = e ∙ a.2 ∙ ap (scan_said (shape r)) input.1
 
 -- What is left in front of a buffer
 
-segments_said_lem : (w : Bor (List ℕ)) (out : MutBor (List ℕ)) (x : Segments) (left : List ℕ) → SegmentsAnswers w out x left → length out.now ≡ 4096 →
+segments_said_lem : (w : Bor (List ℕ)) (out : MutBor (List ℕ)) (x : Result ℕ Refusal) (left : List ℕ) → SegmentsAnswers w out x left → length out.now ≡ 4096 →
     left_said (λ l. take (2 * first_of l) left) (of_segments.said x) ≡ segments_said (parse_for 4096 w.now)
 segments_said_lem w out x left a e =
     let f = rw (a.3, e) at a.2 in
     ap₂ (λ (d : List ℕ) (y : Said). left_said (λ l. take (2 * first_of l) d) y) f.leaves f.says
 
-masks_said_lem : (w : Bor (List ℕ)) (cut out : MutBor (List ℕ)) (x : Masks) (between left : List ℕ) → MatrixAnswers w cut out x between left →
+masks_said_lem : (w : Bor (List ℕ)) (cut out : MutBor (List ℕ)) (x : Result Masks Refusal) (between left : List ℕ) → MatrixAnswers w cut out x between left →
     length cut.now ≡ 4096 → length out.now ≡ 8192 →
     left_said (λ l. take (product_of l) left) (of_masks.said x) ≡ masks_said (parse_masks 4096 8192 w.now)
 masks_said_lem w cut out x between left a c e =
     let f = rw (a.3, a.4, c, e) at a.2 in
     ap₂ (λ (d : List ℕ) (y : Said). left_said (λ l. take (product_of l) d) y) f.leaves f.says
 
-rows_said_lem : (a : RowArgs) → lent_by a ≡ stated → (x : Rows) (left : RowsLeft) → BuildAnswers a x left →
+rows_said_lem : (a : RowArgs) → lent_by a ≡ stated → (x : Result Rows Refusal) (left : RowsLeft) → BuildAnswers a x left →
     left_said (λ l. take 128 left.ascii ++ take (first_of l) left.wide) (of_rows.said x)
     ≡ rows_said a.targets.now a.conts.now (parse_rows stated a.list.now a.targets.now a.conts.now)
 rows_said_lem a e x left b =

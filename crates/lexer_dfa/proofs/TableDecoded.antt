@@ -5,9 +5,6 @@ use mathlib.Core.List.{List, [], ◌∷◌}
 use lib.ListN.{length}
 use Rattle.std.specs.Borrow.{Bor, MutBor}
 use Rattle.refusal.specs.Said.{ok}
-use Rattle.look_scan.specs.declared.StateScan.{StateScan}
-use Rattle.look_scan.specs.declared.StateScan.TheVariants.{NoRun}
-use Rattle.room_decode.specs.declared.Decoded.{Decoded}
 use Rattle.room_decode.specs.Decode.{said}
 use Rattle.law_tables.specs.Table.{Table, words_of, Fields}
 use Rattle.law_tables.specs.Rules.{row_of}
@@ -21,9 +18,13 @@ use Rattle.lexer_dfa.specs.Demands.{DecodeAnswers, Accepted, AsciiOnly, LoopsOn,
 use Rattle.lexer_dfa.proofs.Decoding.{decode_accepts}
 use Rattle.lexer_dfa.proofs.Looking.{decoded_looks, state_scan_is_longest}
 use Rattle.lexer_dfa.proofs.Covered.{decoded_coverage}
+use Rattle.std.specs.Prelude.{Result, Option}
+use Rattle.room_decode.specs.Decode.{Decoding}
+use Rattle.run_shape.specs.declared.AsciiRunScan.{AsciiRunScan}
+use Rattle.refusal.specs.declared.Refusal.{Refusal}
 
 -- the words of t were decoded, and left this room
-module _ (words : Bor (List ℕ)) (room : MutBor (List ℕ)) (f : Fit words.now) (enough : 16384 ≤ length room.now) (x : Decoded) (left : List ℕ)
+module _ (words : Bor (List ℕ)) (room : MutBor (List ℕ)) (f : Fit words.now) (enough : 16384 ≤ length room.now) (x : Decoding) (left : List ℕ)
     (d : DecodeAnswers words room x left) (modes states count : ℕ) (e : said x ≡ ok (modes ∷ states ∷ count ∷ [])) (t : Table)
     (is : words.now ≡ words_of t) (h : Fields t) where
   -- the table that was accepted is t
@@ -51,7 +52,7 @@ module _ (words : Bor (List ℕ)) (room : MutBor (List ℕ)) (f : Fit words.now)
   -- THEOREM: "Over ASCII-only bytes, a state's run, where it has one, is the longest front part on which it loops": the scans by the run of a state of t, in
   -- any room that has the numbers that decode left
   pub table_scan_is_longest : (lent : Bor (List ℕ)) → lent.now ≡ left → (s : ℕ) → s < states → (input : Bor (List ℕ)) → AsciiOnly input.now →
-      (part : Bor (List ℕ)) → StateScanAnswers lent s input part → (says : StateScan) → StateScanLengthAnswers lent s input says → (says ≡ NoRun → ⊥) →
+      (part : Bor (List ℕ)) → StateScanAnswers lent s input part → (says : Result (Option AsciiRunScan) Refusal) → StateScanLengthAnswers lent s input says → (says ≡ Ok None → ⊥) →
       ScansLongest state_tells (LoopsOn s (row_of t s)) input part says
   table_scan_is_longest lent now s there input ascii part p says q some =
       let o = state_scan_is_longest words room f enough x left d modes states count e lent now s there input ascii part p says q some in

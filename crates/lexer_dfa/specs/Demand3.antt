@@ -12,15 +12,15 @@ use Rattle.law_lookups.specs.Looks.{state_of, escape_of, of_state, char_target_o
 use Rattle.list_transitions.specs.Transition.{Transition, points}
 use Rattle.list_transitions.specs.Read.{parse, is_parsed, accepted}
 use Rattle.list_masks.specs.declared.Masks.{Masks}
-use Rattle.list_masks.specs.declared.Masks.TheVariants.{Count}
 use Rattle.list_masks.specs.Masks.{bit, words_for, distinct_of}
 use Rattle.list_masks.proofs.segment_mask_matrix.Reads as matrix
 use Rattle.list_distinct.proofs.distinct_masks.Reads as distinct
 use Rattle.law_rows.specs.Row.{Row, Each, numbers}
 use Rattle.law_rows.specs.Demand.{held_by, OneOf}
 use Rattle.row_build.specs.declared.Rows.{Rows}
-use Rattle.row_build.specs.declared.Rows.TheVariants.{Built}
 use Rattle.row_build.proofs.build_rows.Reads as build
+use Rattle.std.specs.Prelude.{Result, Ok}
+use Rattle.refusal.specs.declared.Refusal.{Refusal}
 
 -- "accepted": every record of the list is read; these are its transitions
 abbrev pub ListAccepted : List ℕ → Type 0
@@ -63,7 +63,7 @@ pub record RowsLeft : Type 0 where
   pub escape : List ℕ
 
 -- `build_rows` may answer x by its own contract, and leave these numbers in the buffers, which are its last four arguments at exit
-abbrev pub BuildAnswers : RowArgs → Rows → RowsLeft → Type 0
+abbrev pub BuildAnswers : RowArgs → Result Rows Refusal → RowsLeft → Type 0
 BuildAnswers a x l =
     (κs : Lfts 9) × (e : _)
     × build.Learnt κs (a.list, (a.targets, (a.conts, (a.segments, (a.masks, (a.distinct, (a.ascii, (a.wide, (a.escape, tt))))))))) x e
@@ -126,10 +126,10 @@ pub record Stands (buffer : List ℕ) (n : ℕ) (goals : List ℕ) : Type 0 wher
   pub goals_given : Each (λ r. OneOf goals r.goal) ranges
 
 -- the call answers rows, and they are so "at each code point from 0 to 1,114,111"
-pub record RowsKept (w targets conts : List ℕ) (x : Rows) (l : RowsLeft) : Type 0 where
+pub record RowsKept (w targets conts : List ℕ) (x : Result Rows Refusal) (l : RowsLeft) : Type 0 where
   pub wide : ℕ
   pub escape : ℕ
-  pub answer : x ≡ Built wide escape
+  pub answer : x ≡ Ok (record { wide = wide; escape = escape })
   pub held : (p : ℕ) → p < points → (i : ℕ) → i < length (list_of w) → holds_at w i p ≡ true → Placed w targets conts wide escape l p
   pub unheld : (p : ℕ) → p < points → ((i : ℕ) → i < length (list_of w) → holds_at w i p ≡ true → ⊥) → Dead wide escape l p
   pub wide_stands : Stands l.wide wide targets
@@ -162,7 +162,7 @@ pub record SameRows (n m : ℕ) (l : RowsLeft) (n' m' : ℕ) (k : RowsLeft) : Ty
 -- Masks
 
 -- `segment_mask_matrix` may answer x by its own contract, and leave these numbers in the buffers for segments and masks
-abbrev pub MatrixAnswers : (list : Bor (List ℕ)) (segments masks : MutBor (List ℕ)) → Masks → (s m : List ℕ) → Type 0
+abbrev pub MatrixAnswers : (list : Bor (List ℕ)) (segments masks : MutBor (List ℕ)) → Result Masks Refusal → (s m : List ℕ) → Type 0
 MatrixAnswers list segments masks x s m =
     (κs : Lfts 3) × (e : _) × matrix.Learnt κs (list, (segments, (masks, tt))) x e × (e.1.0.now ≡ s) × (e.1.1.0.now ≡ m)
 
@@ -184,13 +184,13 @@ pub record MasksAsked (list : Bor (List ℕ)) (segments masks : MutBor (List ℕ
   pub masks_room : 8192 ≤ length masks.now
 
 -- the call answers masks, and each bit at each point says whether its transition holds it
-pub record MasksKept (w : List ℕ) (x : Masks) (s m : List ℕ) : Type 0 where
+pub record MasksKept (w : List ℕ) (x : Result Masks Refusal) (s m : List ℕ) : Type 0 where
   pub count : ℕ
-  pub answer : x ≡ Count count (words_per_mask w)
+  pub answer : x ≡ Ok (record { masks = count; words = (words_per_mask w) })
   pub bits : (p i : ℕ) → p < points → i < length (list_of w) → point_bit s m count (words_per_mask w) p i ≡ bit (holds_at w i p)
 
 -- "each transition's bit is flipped at every point": of the masks of v and of w
-pub record Flipped (v : List ℕ) (x : Masks) (s m : List ℕ) (w : List ℕ) (y : Masks) (s' m' : List ℕ) : Type 0 where
+pub record Flipped (v : List ℕ) (x : Result Masks Refusal) (s m : List ℕ) (w : List ℕ) (y : Result Masks Refusal) (s' m' : List ℕ) : Type 0 where
   pub first : MasksKept v x s m
   pub second : MasksKept w y s' m'
   pub as_many : length (list_of v) ≡ length (list_of w)
@@ -198,7 +198,7 @@ pub record Flipped (v : List ℕ) (x : Masks) (s m : List ℕ) (w : List ℕ) (y
       point_bit s' m' second.count (words_per_mask w) p i ≡ 1 - point_bit s m first.count (words_per_mask v) p i
 
 -- `distinct_masks` may answer x by its own contract, and leave these numbers in the buffer for distinct masks
-abbrev pub DistinctAnswers : (list : Bor (List ℕ)) (segments masks out : MutBor (List ℕ)) → Masks → List ℕ → Type 0
+abbrev pub DistinctAnswers : (list : Bor (List ℕ)) (segments masks out : MutBor (List ℕ)) → Result Masks Refusal → List ℕ → Type 0
 DistinctAnswers list segments masks out x d =
     (κs : Lfts 4) × (e : _) × distinct.Learnt κs (list, (segments, (masks, (out, tt)))) x e × (e.1.1.1.0.now ≡ d)
 

@@ -9,13 +9,7 @@ use Rattle.buffer.specs.Written as written
 use Rattle.buffer.specs.Over.{padded}
 use Rattle.run_ranges.specs.declared.AsciiRange.{AsciiRange}
 use Rattle.run_ranges.specs.Ranges.{loops_at, exits_at, in_ranges, ordered}
-use Rattle.run_shape.specs.declared.Run.{Run}
-use Rattle.run_shape.specs.declared.RunAnswer.{RunAnswer}
-use Rattle.run_shape.specs.declared.Scanned.{Scanned}
-use Rattle.run_shape.specs.declared.Scanned.TheVariants.{Skipped}
 use Rattle.run_shape.specs.Shape.{Shape, none, any, until, ranges}
-use Rattle.look_scan.specs.declared.StateScan.{StateScan}
-use Rattle.look_scan.specs.declared.StateScan.TheVariants as state
 use Rattle.run_classify.proofs.classify.Reads as classify
 use Rattle.run_scan.proofs.scan.Reads as scan
 use Rattle.run_scan.proofs.scan_length.Reads as scan-length
@@ -26,19 +20,23 @@ use Rattle.law_tables.specs.Rules.{Rules}
 use Rattle.law_tables.specs.Whole.{Fit}
 use Rattle.law_tables.specs.Fronts.{Exactly}
 use Rattle.law_tables.specs.Normal.{normal}
-use Rattle.room_decode.specs.declared.Decoded.{Decoded}
 use Rattle.room_decode.specs.Decode as decoding
 use Rattle.room_decode.proofs.decode.Reads as decode
 use Rattle.room_encode.proofs.encode.Reads as encode
-use Rattle.room_find.specs.declared.Answer.{Answer}
 use Rattle.room_coverage.specs.OnTable.{coverage_on}
 use Rattle.room_coverage.proofs.coverage.Reads as coverage
 use Rattle.std.specs.Prelude.{Result}
+use Rattle.std.specs.Prelude.{Option}
+use Rattle.room_decode.specs.Decode.{Decoding}
+use Rattle.room_find.specs.declared.Missing.{Missing}
+use Rattle.run_shape.specs.Shape.{Got}
+use Rattle.run_shape.specs.declared.AsciiRun.{AsciiRun}
+use Rattle.run_shape.specs.declared.AsciiRunScan.{AsciiRunScan}
 
 -- Demand 2: "Given its room, decoding accepts the lists of up to 8,192 words that meet the layout and the nine index rules, and no others."
 
 -- decode may answer x by its own contract, and leave these numbers in the room, which is its second argument at exit
-abbrev pub DecodeAnswers : (words : Bor (List ℕ)) (room : MutBor (List ℕ)) → Decoded → List ℕ → Type 0
+abbrev pub DecodeAnswers : (words : Bor (List ℕ)) (room : MutBor (List ℕ)) → Decoding → List ℕ → Type 0
 DecodeAnswers words room x left = (κs : Lfts 2) × (e : _) × decode.Learnt κs (words, (room, tt)) x e × (e.1.0.now ≡ left)
 
 -- w is up to 8,192 words that meet the layout and the nine index rules: the words of a table whose fields are allowed and which obeys the rules. It has so
@@ -67,7 +65,7 @@ pub record FlagsMade (w v : List ℕ) : Type 0 where
   pub after : v ≡ words_of (normal table)
 
 -- words w were decoded into a room of n numbers with the answer x, which left d there: so they go there and back
-pub record RoundTrip (w : List ℕ) (n : ℕ) (x : Decoded) (d : List ℕ) : Type 0 where
+pub record RoundTrip (w : List ℕ) (n : ℕ) (x : Decoding) (d : List ℕ) : Type 0 where
   pub made : List ℕ
   pub flags : FlagsMade w made
   pub as_many : length made ≡ length w
@@ -75,7 +73,7 @@ pub record RoundTrip (w : List ℕ) (n : ℕ) (x : Decoded) (d : List ℕ) : Typ
   pub encoded : (room : Bor (List ℕ)) (out : MutBor (List ℕ)) → room.now ≡ d → length w ≤ length out.now → (y : Result ℕ Refusal) (left : List ℕ) → EncodeAnswers room out y left →
       (written.said y ≡ ok (length w ∷ [])) × (left ≡ padded (length out.now) made)
   -- decoding those into a room of as many numbers gives the same answer, and leaves the same room, number for number
-  pub again : (words : Bor (List ℕ)) (room : MutBor (List ℕ)) → words.now ≡ made → length room.now ≡ n → (y : Decoded) (left : List ℕ) → DecodeAnswers words room y left →
+  pub again : (words : Bor (List ℕ)) (room : MutBor (List ℕ)) → words.now ≡ made → length room.now ≡ n → (y : Decoding) (left : List ℕ) → DecodeAnswers words room y left →
       (y ≡ x) × (left ≡ d)
 
 -- Document 01: "Encoding and coverage give NOT-TABLE exactly when the room isn't what decoding leaves for some accepted words; encoding gives ROOM next, when
@@ -88,7 +86,7 @@ pub record Leaves (w d : List ℕ) : Type 0 where
   pub are_words : words.now ≡ w
   pub room : MutBor (List ℕ)
   pub as_long : length room.now ≡ length d
-  pub answer : Decoded
+  pub answer : Decoding
   pub leaves : DecodeAnswers words room answer d
   pub modes : ℕ
   pub states : ℕ
@@ -107,7 +105,7 @@ pub record EncodedBy (d : List ℕ) (n : ℕ) (says : Said) : Type 0 where
   pub no_other : (r : Refusal) → says ≡ no_by r → ((r.number ≡ NOT-TABLE) ⊎ (r.number ≡ ROOM)) × (r.item ≡ 0)
 
 -- coverage may answer x by its own contract
-abbrev pub CoverageAnswers : (room : Bor (List ℕ)) (state : ℕ) → Answer → Type 0
+abbrev pub CoverageAnswers : (room : Bor (List ℕ)) (state : ℕ) → Result ℕ Missing → Type 0
 CoverageAnswers room state x = (κs : Lfts 1) × (e : _) × coverage.Learnt κs (room, (state, tt)) x e
 
 -- what coverage says of a room d and a state
@@ -142,26 +140,26 @@ pub record ScansLongest {X : Type 0} (tells : ℕ → Bool → X) (P : ℕ → T
   pub told : says ≡ tells bytes (ltb bytes (length input.now))
 
 -- by the run of a row, and by the run of a state in a room
-abbrev pub run_tells : ℕ → Bool → Scanned
+abbrev pub run_tells : ℕ → Bool → Option AsciiRunScan
 run_tells n b = Skipped (record { bytes = n; found_exit = b })
 
-abbrev pub state_tells : ℕ → Bool → StateScan
+abbrev pub state_tells : ℕ → Bool → Result (Option AsciiRunScan) Refusal
 state_tells n b = state.Skipped n b
 
 -- x is what the call may answer by its own contract, at some lifetimes and with some arguments at exit
-abbrev pub ClassifyAnswers : (row : Bor (List ℕ)) (state : ℕ) → RunAnswer → Type 0
+abbrev pub ClassifyAnswers : (row : Bor (List ℕ)) (state : ℕ) → Got → Type 0
 ClassifyAnswers row state x = (κs : Lfts 1) × (e : _) × classify.Learnt κs (row, (state, tt)) x e
 
-abbrev pub ScanAnswers : (run : Run) (input : Bor (List ℕ)) → Bor (List ℕ) → Type 0
+abbrev pub ScanAnswers : (run : AsciiRun) (input : Bor (List ℕ)) → Bor (List ℕ) → Type 0
 ScanAnswers run input x = (κs : Lfts 1) × (e : _) × scan.Learnt κs (run, (input, tt)) x e
 
-abbrev pub ScanLengthAnswers : (run : Run) (input : Bor (List ℕ)) → Scanned → Type 0
+abbrev pub ScanLengthAnswers : (run : AsciiRun) (input : Bor (List ℕ)) → Option AsciiRunScan → Type 0
 ScanLengthAnswers run input x = (κs : Lfts 1) × (e : _) × scan-length.Learnt κs (run, (input, tt)) x e
 
 abbrev pub StateScanAnswers : (room : Bor (List ℕ)) (state : ℕ) (input : Bor (List ℕ)) → Bor (List ℕ) → Type 0
 StateScanAnswers room state input x = (κs : Lfts 2) × (e : _) × scan-ascii-run.Learnt κs (room, (state, (input, tt))) x e
 
-abbrev pub StateScanLengthAnswers : (room : Bor (List ℕ)) (state : ℕ) (input : Bor (List ℕ)) → StateScan → Type 0
+abbrev pub StateScanLengthAnswers : (room : Bor (List ℕ)) (state : ℕ) (input : Bor (List ℕ)) → Result (Option AsciiRunScan) Refusal → Type 0
 StateScanLengthAnswers room state input x = (κs : Lfts 2) × (e : _) × scan-ascii-run-length.Learnt κs (room, (state, (input, tt))) x e
 
 -- Document 01: "symbols not looping on the state are exits. 0 exits give any; 1 to 3 give until, ascending;

@@ -16,7 +16,6 @@ use Rattle.list_transitions.specs.Bytes.{shape_of}
 use Rattle.list_transitions.specs.declared.Transitions.{Transitions}
 use Rattle.list_transitions.proofs.read_transitions.Reads as read
 use Rattle.list_transitions.proofs.read_intervals.Reads as gathered
-use Rattle.list_segments.specs.declared.Segments.{Segments}
 use Rattle.list_segments.proofs.char_segments.Reads as segments
 use Rattle.list_segments.specs.Segments.{cuts_of, starts}
 use Rattle.list_masks.specs.Masks.{words_for, matrix, distinct_of}
@@ -24,6 +23,7 @@ use Rattle.law_rows.specs.Row.{numbers}
 use Rattle.law_rows.specs.Build.{wide_of, escape_of}
 use Rattle.row_build.specs.Answer.{Lent, lent}
 use Rattle.lexer_dfa.specs.Demand3.{RowArgs}
+use Rattle.std.specs.Prelude.{Result, Ok}
 
 -- The bytes of a list
 
@@ -212,11 +212,11 @@ lent_by a = lent a.segments.now a.masks.now a.distinct.now a.ascii.now a.wide.no
 
 -- x is what the call may answer by its own contract, and `left` what it leaves in its buffer, which is its second argument at exit; those of the other calls
 -- stand in Demand3.antt
-abbrev pub TransitionsAnswers : (list : Bor (List ℕ)) → Transitions → Type 0
+abbrev pub TransitionsAnswers : (list : Bor (List ℕ)) → Result Transitions Refusal → Type 0
 TransitionsAnswers list x = (κs : Lfts 1) × (e : _) × read.Learnt κs (list, tt) x e
 
-abbrev pub IntervalsAnswers : (list : Bor (List ℕ)) (out : MutBor (List ℕ)) → Transitions → List ℕ → Type 0
+abbrev pub IntervalsAnswers : (list : Bor (List ℕ)) (out : MutBor (List ℕ)) → Result Transitions Refusal → List ℕ → Type 0
 IntervalsAnswers list out x left = (κs : Lfts 2) × (e : _) × gathered.Learnt κs (list, (out, tt)) x e × (e.1.0.now ≡ left)
 
-abbrev pub SegmentsAnswers : (list : Bor (List ℕ)) (out : MutBor (List ℕ)) → Segments → List ℕ → Type 0
+abbrev pub SegmentsAnswers : (list : Bor (List ℕ)) (out : MutBor (List ℕ)) → Result ℕ Refusal → List ℕ → Type 0
 SegmentsAnswers list out x left = (κs : Lfts 2) × (e : _) × segments.Learnt κs (list, (out, tt)) x e × (e.1.0.now ≡ left)

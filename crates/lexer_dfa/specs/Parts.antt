@@ -8,9 +8,7 @@ use Rattle.room_find.specs.declared.Span.{Span}
 use Rattle.law_tables.specs.Table.{Config, config_words}
 use Rattle.law_lookups.specs.Looks.{part}
 use Rattle.look_accepts.specs.declared.AcceptRecord.{AcceptRecord}
-use Rattle.look_accepts.specs.declared.AcceptRecord.TheVariants as accept
 use Rattle.look_continuation_records.specs.declared.ContinuationRecord.{ContinuationRecord}
-use Rattle.look_continuation_records.specs.declared.ContinuationRecord.TheVariants as continuation
 use Rattle.look_accepts.proofs.accept_record.Reads as accept_record
 use Rattle.look_parts.proofs.accept_actions.Reads as accept_actions
 use Rattle.look_continuation_records.proofs.continuation_record.Reads as continuation_record
@@ -19,15 +17,17 @@ use Rattle.look_parts.proofs.continuation_configs.Reads as continuation_configs
 use Rattle.look_accepts.proofs.accept_actions_span.Reads as accept_actions_span
 use Rattle.look_continuation_records.proofs.continuation_contexts_span.Reads as continuation_contexts_span
 use Rattle.look_continuation_records.proofs.continuation_configs_span.Reads as continuation_configs_span
+use Rattle.std.specs.Prelude.{Result}
+use Rattle.room_find.specs.declared.Missing.{Missing}
 
 -- x is what the call may answer by its own contract
-abbrev pub AcceptRecordAnswers : (room : Bor (List ℕ)) (number : ℕ) → AcceptRecord → Type 0
+abbrev pub AcceptRecordAnswers : (room : Bor (List ℕ)) (number : ℕ) → Result AcceptRecord Missing → Type 0
 AcceptRecordAnswers room number x = (κs : Lfts 1) × (e : _) × accept_record.Learnt κs (room, (number, tt)) x e
 
 abbrev pub AcceptActionsAnswers : (room : Bor (List ℕ)) (number : ℕ) → Bor (List ℕ) → Type 0
 AcceptActionsAnswers room number x = (κs : Lfts 1) × (e : _) × accept_actions.Learnt κs (room, (number, tt)) x e
 
-abbrev pub ContinuationRecordAnswers : (room : Bor (List ℕ)) (number : ℕ) → ContinuationRecord → Type 0
+abbrev pub ContinuationRecordAnswers : (room : Bor (List ℕ)) (number : ℕ) → Result ContinuationRecord Missing → Type 0
 ContinuationRecordAnswers room number x = (κs : Lfts 1) × (e : _) × continuation_record.Learnt κs (room, (number, tt)) x e
 
 abbrev pub ContextsAnswers : (room : Bor (List ℕ)) (number : ℕ) → Bor (List ℕ) → Type 0
@@ -46,7 +46,7 @@ abbrev pub ConfigsSpanAnswers : (room : Bor (List ℕ)) (number : ℕ) → Span 
 ConfigsSpanAnswers room number x = (κs : Lfts 1) × (e : _) × continuation_configs_span.Learnt κs (room, (number, tt)) x e
 
 -- "rule, consumed-EOF flag, action count, actions of three words": of the record that x tells, `actions` is the part that is handed back of the room w
-pub record ActionsOf (x : AcceptRecord) (w actions : List ℕ) : Type 0 where
+pub record ActionsOf (x : Result AcceptRecord Missing) (w actions : List ℕ) : Type 0 where
   pub not_table_lem : x ≡ accept.NotTable → actions ≡ []
   pub no_record : x ≡ accept.NoRecord → actions ≡ []
   -- there are k of them, and they stand in the room behind the record's rule, its flag and k
@@ -55,7 +55,7 @@ pub record ActionsOf (x : AcceptRecord) (w actions : List ℕ) : Type 0 where
 
 -- "context count, contexts (kind 0 or 1, two words), config count, configs (state, alternative rule or NONE, two flags, context, action count, actions)": of
 -- the record that x tells, these are the parts that are handed back of the room w
-pub record PartsOf (x : ContinuationRecord) (w contexts configs : List ℕ) : Type 0 where
+pub record PartsOf (x : Result ContinuationRecord Missing) (w contexts configs : List ℕ) : Type 0 where
   pub not_table_lem : x ≡ continuation.NotTable → (contexts ≡ []) × (configs ≡ [])
   pub no_record : x ≡ continuation.NoRecord → (contexts ≡ []) × (configs ≡ [])
   -- there are n contexts and m configs, and they stand in the room behind n and m

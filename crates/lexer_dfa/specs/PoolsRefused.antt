@@ -10,10 +10,10 @@ use Rattle.refusal.specs.Fixed.{NONE}
 use Rattle.law_tables.specs.Table.{All, RangeFields}
 use Rattle.law_tables.specs.Fronts.{Exactly}
 use Rattle.law_rows.specs.Row.{Row, numbers}
-use Rattle.pool_rows.specs.declared.Interned.{Interned}
 use Rattle.pool_rows.specs.Pools.{Kind, ascii, wide, standing}
 use Rattle.pool_ascii.proofs.intern_ascii.Reads as intern-ascii
 use Rattle.pool_wide.proofs.intern_wide.Reads as intern-wide
+use Rattle.std.specs.Prelude.{Result}
 
 -- what stands for a row: 128 targets, or "its count, then its ranges"
 abbrev pub OfKind : Kind → List ℕ → Type 0
@@ -64,8 +64,8 @@ pub record InternedBy (k : Kind) (w : List ℕ) (n : ℕ) (row : List ℕ) (says
   pub no_other : (r : Refusal) → says ≡ no_by r → ((r.number ≡ NOT-TABLE) ⊎ (r.number ≡ FIELD) ⊎ (r.number ≡ ROOM)) × (r.item ≡ 0)
 
 -- x is what the call may answer by its own contract, and `left` what it leaves in the pool, which is its first argument at exit
-abbrev pub InternAsciiAnswers : (pool : MutBor (List ℕ)) (rows : ℕ) (row : Bor (List ℕ)) → Interned → List ℕ → Type 0
+abbrev pub InternAsciiAnswers : (pool : MutBor (List ℕ)) (rows : ℕ) (row : Bor (List ℕ)) → Result ℕ Refusal → List ℕ → Type 0
 InternAsciiAnswers pool rows row x left = (κs : Lfts 2) × (e : _) × intern-ascii.Learnt κs (pool, (rows, (row, tt))) x e × (e.0.now ≡ left)
 
-abbrev pub InternWideAnswers : (pool : MutBor (List ℕ)) (rows : ℕ) (row : Bor (List ℕ)) → Interned → List ℕ → Type 0
+abbrev pub InternWideAnswers : (pool : MutBor (List ℕ)) (rows : ℕ) (row : Bor (List ℕ)) → Result ℕ Refusal → List ℕ → Type 0
 InternWideAnswers pool rows row x left = (κs : Lfts 2) × (e : _) × intern-wide.Learnt κs (pool, (rows, (row, tt))) x e × (e.0.now ≡ left)

@@ -4,12 +4,12 @@ use Rattle.std.specs.Prelude.{ℕ, ◌<◌, ◌≡◌, true, List, length, get_o
 use contract.Lifetimes.{Lfts}
 use Rattle.std.specs.Borrow.{Bor}
 use Rattle.refusal.specs.Fixed.{NONE, DEAD-STATE}
-use Rattle.room_find.specs.declared.Answer.{Answer}
-use Rattle.room_find.specs.declared.Answer.TheVariants.{Number}
 use Rattle.look_targets.proofs.char_target.Reads as look_target
 use Rattle.look_continuations.proofs.char_continuation.Reads as look_continuation
 use Rattle.list_transitions.specs.Transition.{points}
 use Rattle.lexer_dfa.specs.Demand3.{list_of, holds_at, OfExactly}
+use Rattle.std.specs.Prelude.{Result, Ok}
+use Rattle.room_find.specs.declared.Missing.{Missing}
 
 -- t and c were looked up at p: "the target looked up at each code point .. is the one given for exactly the transitions holding that point": one distinct mask
 -- is of these, and no other; "the continuation looked up is likewise the one given, and none where the target is dead"
@@ -28,16 +28,16 @@ pub record DeadAs (t c : ℕ) : Type 0 where
   pub cont : c ≡ NONE
 
 -- `char_target` may answer x by its own contract, and so may `char_continuation`
-abbrev pub TargetAnswers : (room : Bor (List ℕ)) (state symbol : ℕ) → Answer → Type 0
+abbrev pub TargetAnswers : (room : Bor (List ℕ)) (state symbol : ℕ) → Result ℕ Missing → Type 0
 TargetAnswers room state symbol x = (κs : Lfts 1) × (e : _) × look_target.Learnt κs (room, (state, (symbol, tt))) x e
 
-abbrev pub ContinuationAnswers : (room : Bor (List ℕ)) (state symbol : ℕ) → Answer → Type 0
+abbrev pub ContinuationAnswers : (room : Bor (List ℕ)) (state symbol : ℕ) → Result ℕ Missing → Type 0
 ContinuationAnswers room state symbol x = (κs : Lfts 1) × (e : _) × look_continuation.Learnt κs (room, (state, (symbol, tt))) x e
 
 -- whatever the two calls answer of a state at p, they answer numbers, t and c, and P holds of these
 abbrev pub BothAnswer : (room : Bor (List ℕ)) (state p : ℕ) → (ℕ → ℕ → Type 0) → Type 0
 BothAnswer room state p P =
-    (x y : Answer) → TargetAnswers room state p x → ContinuationAnswers room state p y → (t : ℕ) × (c : ℕ) × (x ≡ Number t) × (y ≡ Number c) × P t c
+    (x y : Result ℕ Missing) → TargetAnswers room state p x → ContinuationAnswers room state p y → (t : ℕ) × (c : ℕ) × (x ≡ Ok t) × (y ≡ Ok c) × P t c
 
 -- "the target looked up at each code point from 0 to 1,114,111", and the continuation, by the calls and in a room
 pub record LookedUp (w targets conts distinct : List ℕ) (room : Bor (List ℕ)) (state : ℕ) : Type 0 where
