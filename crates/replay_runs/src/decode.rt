@@ -7,11 +7,13 @@ use room_decode::Decoded;
 // A table has no refusal, and a refusal no table: what a record does not tell of is 0.
 fn same_answer(decoded: Result<Decoded, Refusal>, recorded: &[u8]) -> bool {
     match decoded {
-        Ok(Decoded {
-            modes,
-            states,
-            words,
-        }) => {
+        Ok(
+            Decoded {
+                modes,
+                states,
+                words,
+            },
+        ) => {
             (read::half(recorded, 0) == 0)
                 & (read::byte(recorded, 2) == 0)
                 & (modes as usize == read::small(recorded, 3))

@@ -54,7 +54,13 @@ pub fn find_state(room: &[u32], state: u16) -> Result<usize, Missing>
     ensures { result ≡ state_at room.now state }
 {
     if CONTINUATIONS_START < room.len() {
-        return record_in(room, room[STATES_START], room[RUNS_START], 4, u32::from(state));
+        return record_in(
+            room,
+            room[STATES_START],
+            room[RUNS_START],
+            4,
+            u32::from(state),
+        );
     }
     Err(Missing::Outside)
 }

@@ -45,11 +45,13 @@ pub(crate) fn line_of(answer: Result<Decoded, Refusal>) -> Line
     ensures { take result.at result.bytes ≡ line_of (said answer) }
 {
     match answer {
-        Ok(Decoded {
-            modes,
-            states,
-            words,
-        }) => line_with(b"ok", &[u64::from(modes), u64::from(states), words as u64]),
+        Ok(
+            Decoded {
+                modes,
+                states,
+                words,
+            },
+        ) => line_with(b"ok", &[u64::from(modes), u64::from(states), words as u64]),
         Err(refusal) => line_with(
             b"no",
             &[

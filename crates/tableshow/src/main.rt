@@ -97,11 +97,13 @@ fn show_refusal(out: Stdout, number: u32, place: usize, page: &mut Page) -> Resu
 fn show(out: Stdout, room: &[u32], decoded: std::result::Result<Decoded, Refusal>) -> Result<()> {
     let mut page = Page::new();
     match decoded {
-        Ok(Decoded {
-            modes,
-            states,
-            words,
-        }) => show_table(out, room, modes, states, words, &mut page),
+        Ok(
+            Decoded {
+                modes,
+                states,
+                words,
+            },
+        ) => show_table(out, room, modes, states, words, &mut page),
         Err(refusal) => show_refusal(out, refusal.number, refusal.place, &mut page),
     }
 }
