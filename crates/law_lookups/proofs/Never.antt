@@ -1,18 +1,19 @@
 -- What a table says is never NOT-TABLE. Assumes nothing.
 use Prim.Native.Nat.{ℕ}
 use native.Mathlib.Omega.{arith}
-use mathlib.Core.Path.{◌≡◌, sym, ◌∙◌}
+use mathlib.Core.Path.{◌≡◌, sym, ap, ◌∙◌}
 use mathlib.Core.Bool.{Bool, true, false}
 use mathlib.Core.List.{List, [], ◌∷◌}
 use lib.Dec.{ltb, eqb}
 use lib.ListN.{length, get_or}
+use Rattle.std.specs.Prelude.{Ok, Err}
 use Rattle.refusal.specs.Said.{Said, ok, no, ROOM, STATE, NOT-TABLE, ORDER}
 use Rattle.refusal.proofs.Apart.{one_number}
 use Rattle.refusal.specs.Fixed.{NONE}
 use Rattle.refusal.specs.Lists.{pick}
 use Rattle.run_shape.specs.Shape as run
 use Rattle.run_shape.specs.Classify.{classification}
-use Rattle.run_shape.specs.Scan.{scan_said}
+use Rattle.run_shape.specs.Scan.{scan_of, scan_said}
 use Rattle.look_mode_lists.specs.Written as list
 use Rattle.look_mode_lists.specs.Counts.{counts_for, descent, compiled_of}
 use Rattle.law_tables.specs.Table.{Table}
@@ -36,7 +37,7 @@ known_as e f p g = f p (sym e ∙ g)
 
 -- a scan
 known_scan : (s : run.Shape) (bs : List ℕ) → Known (scan_said s bs)
-unfolding scan_said
+unfolding scan_of
 known_scan run.none bs = known_ok _
 known_scan run.any bs = known_ok _
 known_scan (run.until es) bs = known_ok _
@@ -54,9 +55,13 @@ counts_known false true q l p e = let z : ORDER ≡ NOT-TABLE = cc in omega arit
 counts_known false false q l p e = let z : ◌≡◌ {A = ℕ} 0 1 = cc in omega arith
 
 -- a run
-run_known : (b : Bool) (x : _) (p : ℕ) → pick b (run.run x) (run.refused STATE 0) ≡ run.refused NOT-TABLE p → ⊥
-run_known true x p e = let z : ◌≡◌ {A = ℕ} 0 1 = cc in omega arith
-run_known false x p e = let z : STATE ≡ NOT-TABLE = cc in omega arith
+abbrev number_in : run.Got → ℕ
+number_in (Ok x) = 0
+number_in (Err r) = r.number
+
+run_known : (b : Bool) (x : _) (p : ℕ) → pick b (Ok x) (run.refused STATE 0) ≡ run.refused NOT-TABLE p → ⊥
+run_known true x p e = let z : 0 ≡ NOT-TABLE = ap number_in e in omega arith
+run_known false x p e = let z : STATE ≡ NOT-TABLE = ap number_in e in omega arith
 
 -- so a room that gives what a table says never gives it
 pub looks_never : (t : Table) (w : List ℕ) → Looks t w → Never w

@@ -12,7 +12,7 @@ use borrow.Author.Tests.{ltb-true, ltb-false}
 use Rattle.refusal.specs.Header.{ASCII-START}
 use Rattle.refusal.specs.Said.{STATE}
 use Rattle.refusal.specs.Lists.{pick}
-use Rattle.run_shape.specs.Shape.{Shape, none, any, until, ranges, Got, run, refused, shape, held}
+use Rattle.run_shape.specs.Shape.{Shape, none, any, until, ranges, Got, refused, shape, held}
 use Rattle.run_shape.specs.Words.{read_at}
 use Rattle.run_shape.specs.Scan.{skipped, scan_said, scanned_by}
 use Rattle.run_shape.specs.Classify.{classification}
@@ -78,19 +78,19 @@ module _ (t : Table) (h : Fields t) (r : Rules t) (w : List ℕ) (k : Held t w) 
         let e : 0 + s ≡ s = omega arith in
         subst (λ i. shaped ≡ classification i (row_of t i)) e (numbered_nth (λ i x. x ≡ classification i (row_of t i)) 0 t.runs s none r.rule4 there)
 
-    run_read : run_of w s ≡ run (held (classification s (row_of t s)))
+    run_read : run_of w s ≡ Ok (held (classification s (row_of t s)))
     unfolding run_of follow run_in
     run_read =
         let q = run_at in
-        let e : read_at (take (get_or w ASCII-START 0) w) q.0 ≡ run (held shaped) =
+        let e : read_at (take (get_or w ASCII-START 0) w) q.0 ≡ Ok (held shaped) =
         shape_reads shaped _ (all_nth RunFields t.runs s none h.runs there) (cut (run_words shaped) q.2) in
-        rw (q.1, e) (ap (λ x. run (held x)) classified)
+        rw (q.1, e) (ap (λ x. Ok (held x)) classified)
 
   pub run_is : (s : ℕ) → ascii_run w s ≡ ascii_run_of t s
   unfolding ascii_run follow
   run_is s = go (ltb s (length t.states)) refl
     where
-      go : (b : Bool) → ltb s (length t.states) ≡ b → ascii_run w s ≡ pick b (run (held (classification s (row_of t s)))) (refused STATE 0)
+      go : (b : Bool) → ltb s (length t.states) ≡ b → ascii_run w s ≡ pick b (Ok (held (classification s (row_of t s)))) (refused STATE 0)
       go true u = let l = ltb-true _ _ u in rw (state_at_lem t h r w k s l) (run_read s l)
       go false u = rw (state_none t h r w k s (ltb-false _ _ u))
 
@@ -101,12 +101,12 @@ module _ (t : Table) (h : Fields t) (r : Rules t) (w : List ℕ) (k : Held t w) 
       subst (λ x. shape (held x) ≡ x) (classified s l) (held-shape (shaped s l) f)
 
   -- what is done with a run
-  by_run : {A : Type 0} (f : Got → A) (g : Shape → A) → ((x : _) → f (run x) ≡ g (shape x)) → (s : ℕ) →
+  by_run : {A : Type 0} (f : Got → A) (g : Shape → A) → ((x : _) → f (Ok x) ≡ g (shape x)) → (s : ℕ) →
       f (ascii_run w s) ≡ pick (ltb s (length t.states)) (g (classification s (row_of t s))) (f (refused STATE 0))
   by_run f g e s = ap f (run_is s) ∙ go (ltb s (length t.states)) refl
     where
       go : (b : Bool) → ltb s (length t.states) ≡ b
-          → f (pick b (run (held (classification s (row_of t s)))) (refused STATE 0)) ≡ pick b (g (classification s (row_of t s))) (f (refused STATE 0))
+          → f (pick b (Ok (held (classification s (row_of t s)))) (refused STATE 0)) ≡ pick b (g (classification s (row_of t s))) (f (refused STATE 0))
       go true u = e (held (classification s (row_of t s))) ∙ ap g (stands_for s (ltb-true _ _ u))
       go false u = refl
 

@@ -1,10 +1,10 @@
 -- What a lookup gives on a table (document 01, "Lookups"), as a reader of the Rust would expect it, and that a room gives just that. t is the table, w the
 -- room, s a state, x a symbol. Assumes nothing.
-use Rattle.std.specs.Prelude.{ℕ, ◌≡◌, List, [], ◌∷◌, map, ltb, leb, eqb, length, get_or, take, drop}
+use Rattle.std.specs.Prelude.{ℕ, ◌≡◌, List, [], ◌∷◌, map, ltb, leb, eqb, length, get_or, take, drop, Ok}
 use Rattle.refusal.specs.Said.{Said, ok, no, STATE}
 use Rattle.refusal.specs.Fixed.{NONE, DEAD-STATE}
 use Rattle.refusal.specs.Lists.{pick, some, each}
-use Rattle.run_shape.specs.Shape.{Got, run, refused, held}
+use Rattle.run_shape.specs.Shape.{Got, refused, held}
 use Rattle.run_shape.specs.Classify.{classification}
 use Rattle.run_shape.specs.Scan.{skipped, scan_said, scanned_by}
 use Rattle.room_fill.specs.Room.{flag}
@@ -60,7 +60,7 @@ char_continuation_of t s x = of_state t s (goal_at NONE (escape_of t s).ranges x
 
 -- "each run is the classification of its state's row"
 abbrev pub ascii_run_of : Table → ℕ → Got
-ascii_run_of t s = pick (ltb s (length t.states)) (run (held (classification s (row_of t s)))) (refused STATE 0)
+ascii_run_of t s = pick (ltb s (length t.states)) (Ok (held (classification s (row_of t s)))) (refused STATE 0)
 
 -- the scan by it: "none answers "no run""; how many bytes it skips, and whether an exit was found
 abbrev pub scan_of : Table → ℕ → List ℕ → Said

@@ -15,7 +15,7 @@ use Rattle.refusal.proofs.Fronts.{before-front, before_at}
 use Rattle.run_ranges.specs.Ranges.{loops_at, exits_at, ranges_from}
 use Rattle.run_ranges.proofs.Maximal.{passing-row, ranges_hold, ranges_ordered}
 use Rattle.run_shape.specs.declared.AsciiRun.{AsciiRun}
-use Rattle.run_shape.specs.declared.AsciiRun.TheVariants.{None}
+use Rattle.run_shape.specs.declared.AsciiRun.TheVariants as runs
 use Rattle.run_shape.specs.Shape.{none}
 use Rattle.run_shape.specs.Classify.{exits_from, classification}
 use Rattle.run_shape.specs.Scan.{stops, skipped}
@@ -23,7 +23,7 @@ use Rattle.run_classify.proofs.Described.{exits_hold, exits_ascend, gives_any, g
 use Rattle.run_classify.proofs.Described.{classification-stops, run_said, ran_row, ran_shape, ran_some}
 use Rattle.run_scan.proofs.ScanSaid.{scanned_one}
 use Rattle.lexer_dfa.specs.Demands.{AsciiOnly, LoopsOn, Longest, ScansLongest, run_tells, ClassifyAnswers, ScanAnswers, ScanLengthAnswers, Described}
-use Rattle.std.specs.Prelude.{Ok, Option, None}
+use Rattle.std.specs.Prelude.{Ok, Option}
 use Rattle.run_shape.specs.Shape.{Got}
 use Rattle.run_shape.specs.declared.AsciiRunScan.{AsciiRunScan}
 
@@ -75,16 +75,16 @@ run_is_longest state row w n bs a =
       here i h = classification-stops state row n (get_or bs i 0) (omega (arith, a i h))
 
 -- the same of the calls, by their own contracts: where `classify` answers a run that is not none, the scans by it hand back that front part
-pub scan_is_longest : (row : Bor (List ℕ)) (state : ℕ) (x : Got) → ClassifyAnswers row state x → (kind : AsciiRun) →
-    x.answer ≡ Ok kind → (kind ≡ None → ⊥) →
+pub scan_is_longest : (row : Bor (List ℕ)) (state : ℕ) (x : Got) → ClassifyAnswers row state x → (run : AsciiRun) →
+    x ≡ Ok run → (run ≡ runs.None → ⊥) →
     (input : Bor (List ℕ)) → AsciiOnly input.now →
-    (part : Bor (List ℕ)) → ScanAnswers (record { kind = kind; ranges = x.ranges }) input part →
-    (says : Option AsciiRunScan) → ScanLengthAnswers (record { kind = kind; ranges = x.ranges }) input says →
+    (part : Bor (List ℕ)) → ScanAnswers run input part →
+    (says : Option AsciiRunScan) → ScanLengthAnswers run input says →
     ScansLongest run_tells (LoopsOn state row.now) input part says
-scan_is_longest row state x c kind r n input a part p says l =
-    let w = (ran_row state row.now x kind c.2 r).0 in
-    let e = ran_shape state row.now x kind c.2 r in
-    let m = ran_some state row.now x kind c.2 r n in
+scan_is_longest row state x c run r n input a part p says l =
+    let w = (ran_row state row.now x run c.2 r).0 in
+    let e = ran_shape state row.now x run c.2 r in
+    let m = ran_some state row.now x run c.2 r n in
     let s = classification state row.now in
     let b = skipped s input.now in
     record {

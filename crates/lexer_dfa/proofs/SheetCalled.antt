@@ -5,12 +5,11 @@ use mathlib.Core.Path.{◌≡◌, refl, ap, ap₂, subst, ◌∙◌}
 use mathlib.Core.List.{List, [], ◌∷◌, ◌++◌}
 use lib.ListN.{length, take}
 use Rattle.std.specs.Borrow.{Bor, MutBor}
-use Rattle.refusal.specs.Said.{Said, ok, no}
+use Rattle.refusal.specs.Said.{Said, ok, no, no_by}
 use Rattle.run_shape.specs.declared.RunWords.{RunWords}
-use Rattle.run_shape.specs.Shape.{Got, run, refused, shape, answered, got_said}
+use Rattle.run_shape.specs.Shape.{shape, got_said}
 use Rattle.run_shape.specs.Classify.{classified}
 use Rattle.run_shape.specs.Scan.{scan_said, scanned_by}
-use Rattle.run_shape.proofs.Answers as run_answers
 use Rattle.room_decode.specs.Decode as codec
 use Rattle.list_transitions.specs.Read as of_list
 use Rattle.list_transitions.specs.Read.{parse}
@@ -29,29 +28,29 @@ use Rattle.lexer_dfa.specs.Sheet.{first_of, product_of, segments_said, masks_sai
 use Rattle.lexer_dfa.specs.SheetCalled.{OfRun, ClassifiedThen, WordsSay, ScanSays, Answers, RightCalled}
 use Rattle.lexer_dfa.proofs.Demand3.{given}
 use Rattle.lexer_dfa.proofs.Examples.{wildcards, sheet_right, limits_right}
-use Rattle.std.specs.Prelude.{Result}
+use Rattle.std.specs.Prelude.{Result, Ok, Err}
 use Rattle.run_shape.specs.Shape.{Got}
 use Rattle.run_shape.specs.declared.AsciiRun.{AsciiRun}
 use Rattle.refusal.specs.declared.Refusal.{Refusal}
 
 -- By the run that was classified
 
-of_got : (P : AsciiRun → Said → Type 0) (f : Got → Said) → ((r : AsciiRun) (s : Said) → P r s → s ≡ f (run r)) → ((n p : ℕ) → no n p ≡ f (refused n p)) →
-    (g : Got) (s : Said) → OfRun P (answered g).answer (answered g).ranges s → s ≡ f g
-of_got P f h k (run r) s o = h r s o
-of_got P f h k (refused n p) s o = o ∙ k n p
+of_got : (P : AsciiRun → Said → Type 0) (f : Got → Said) → ((r : AsciiRun) (s : Said) → P r s → s ≡ f (Ok r)) → ((r : Refusal) → no_by r ≡ f (Err r)) →
+    (g : Got) (s : Said) → OfRun P g s → s ≡ f g
+of_got P f h k (Ok r) s o = h r s o
+of_got P f h k (Err r) s o = o ∙ k r
 
-then_said : (P : AsciiRun → Said → Type 0) (f : Got → Said) → ((r : AsciiRun) (s : Said) → P r s → s ≡ f (run r)) → ((n p : ℕ) → no n p ≡ f (refused n p)) →
+then_said : (P : AsciiRun → Said → Type 0) (f : Got → Said) → ((r : AsciiRun) (s : Said) → P r s → s ≡ f (Ok r)) → ((r : Refusal) → no_by r ≡ f (Err r)) →
     (row : List ℕ) (state : ℕ) (s : Said) → ClassifiedThen row state P s → s ≡ f (classified state row)
 then_said P f h k row state s (r, x, c, o) =
     let g = classified state r.0.now in
-    of_got P f h k g s (subst (λ (y : Got). OfRun P y.answer y.ranges s) (run_answers.given g c.2) o)
+    of_got P f h k g s (subst (λ (y : Got). OfRun P y s) c.2 o)
     ∙ ap (λ (l : List ℕ). f (classified state l)) r.1
 
-words_said_lem : (r : AsciiRun) (s : Said) → WordsSay r s → s ≡ words_said (run r)
+words_said_lem : (r : AsciiRun) (s : Said) → WordsSay r s → s ≡ words_said (Ok r)
 words_said_lem r s (x, a, e) = e ∙ ap {B = Said} (λ (y : RunWords). ok (word_list y)) a.2
 
-scan_said_lem : (bytes : List ℕ) (r : AsciiRun) (s : Said) → ScanSays bytes r s → s ≡ scanned_by (run r) bytes
+scan_said_lem : (bytes : List ℕ) (r : AsciiRun) (s : Said) → ScanSays bytes r s → s ≡ scanned_by (Ok r) bytes
 scan_said_lem bytes r s (input, x, a, e) = e ∙ a.2 ∙ ap (scan_said (shape r)) input.1
 
 -- What is left in front of a buffer
@@ -83,9 +82,9 @@ rows_said_lem a e x left b =
 
 -- THEOREM: what a call answers by its own contract says what the sheet's definitions say
 pub sheet_called : (c : Call) (s : Said) → Answers c s → s ≡ said_by c
-sheet_called (classify row state) s (r, x, a, e) = e ∙ a.2.says ∙ ap (λ (l : List ℕ). got_said (classified state l)) r.1
-sheet_called (words row state) s o = then_said WordsSay words_said words_said_lem (λ n p. refl) row state s o
-sheet_called (scan row state bytes) s o = then_said (ScanSays bytes) (λ g. scanned_by g bytes) (scan_said_lem bytes) (λ n p. refl) row state s o
+sheet_called (classify row state) s (r, x, a, e) = e ∙ ap got_said a.2 ∙ ap (λ (l : List ℕ). got_said (classified state l)) r.1
+sheet_called (words row state) s o = then_said WordsSay words_said words_said_lem (λ q. refl) row state s o
+sheet_called (scan row state bytes) s o = then_said (ScanSays bytes) (λ g. scanned_by g bytes) (scan_said_lem bytes) (λ q. refl) row state s o
 sheet_called (decode list room) s (w, r, x, left, a, e) =
     e ∙ ap codec.said a.2.0 ∙ ap₂ (λ (l : List ℕ) (n : ℕ). codec.said (codec.decode_of l n)) w.1 r.1
 sheet_called (transitions list) s (w, x, a, e) = e ∙ a.2 ∙ ap (λ (l : List ℕ). of_list.counted (parse l)) w.1

@@ -1,5 +1,5 @@
 -- The words in which the demands are stated (document 00, "The demands, as agreed"). Assumes nothing.
-use Rattle.std.specs.Prelude.{ℕ, suc, ◌≤◌, ◌<◌, ◌≡◌, Bool, true, ◌&&◌, List, [], ◌∷◌, ◌⊎◌, eqb, ltb, length, get_or, take}
+use Rattle.std.specs.Prelude.{Result, Ok, Option, Some, ℕ, suc, ◌≤◌, ◌<◌, ◌≡◌, Bool, true, ◌&&◌, List, [], ◌∷◌, ◌⊎◌, eqb, ltb, length, get_or, take}
 use contract.Lifetimes.{Lfts}
 use Rattle.std.specs.Borrow.{Bor, MutBor}
 use Rattle.refusal.specs.declared.Refusal.{Refusal}
@@ -25,8 +25,6 @@ use Rattle.room_decode.proofs.decode.Reads as decode
 use Rattle.room_encode.proofs.encode.Reads as encode
 use Rattle.room_coverage.specs.OnTable.{coverage_on}
 use Rattle.room_coverage.proofs.coverage.Reads as coverage
-use Rattle.std.specs.Prelude.{Result}
-use Rattle.std.specs.Prelude.{Option}
 use Rattle.room_decode.specs.Decode.{Decoding}
 use Rattle.room_find.specs.declared.Missing.{Missing}
 use Rattle.run_shape.specs.Shape.{Got}
@@ -141,10 +139,10 @@ pub record ScansLongest {X : Type 0} (tells : ℕ → Bool → X) (P : ℕ → T
 
 -- by the run of a row, and by the run of a state in a room
 abbrev pub run_tells : ℕ → Bool → Option AsciiRunScan
-run_tells n b = Skipped (record { bytes = n; found_exit = b })
+run_tells n b = Some (record { bytes = n; found_exit = b })
 
 abbrev pub state_tells : ℕ → Bool → Result (Option AsciiRunScan) Refusal
-state_tells n b = state.Skipped n b
+state_tells n b = Ok (Some (record { bytes = n; found_exit = b }))
 
 -- x is what the call may answer by its own contract, at some lifetimes and with some arguments at exit
 abbrev pub ClassifyAnswers : (row : Bor (List ℕ)) (state : ℕ) → Got → Type 0

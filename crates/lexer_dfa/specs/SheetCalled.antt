@@ -40,13 +40,13 @@ abbrev pub WordsAnswers : AsciiRun → RunWords → Type 0
 WordsAnswers r x = (κs : Lfts 0) × (e : _) × write_serialized.Learnt κs (r, tt) x e
 
 -- P says s of the run that `classify` answered, which has the ranges beside the answer; where it refused, s is the refusal
-abbrev pub OfRun : (AsciiRun → Said → Type 0) → Got → AsciiRanges → Said → Type 0
-OfRun P (Ok kind) ranges s = P (record { kind = kind; ranges = ranges }) s
-OfRun P (Err r) ranges s = s ≡ no_by r
+abbrev pub OfRun : (AsciiRun → Said → Type 0) → Got → Said → Type 0
+OfRun P (Ok run) s = P run s
+OfRun P (Err r) s = s ≡ no_by r
 
 -- `classify` may answer so of the row and the state, and P says s of that
 abbrev pub ClassifiedThen : (row : List ℕ) (state : ℕ) → (AsciiRun → Said → Type 0) → Said → Type 0
-ClassifiedThen row state P s = (r : Slice row) × (x : Got) × ClassifyAnswers r.0 state x × OfRun P x.answer x.ranges s
+ClassifiedThen row state P s = (r : Slice row) × (x : Got) × ClassifyAnswers r.0 state x × OfRun P x s
 
 -- of a run: its words, and what a scan of these bytes tells
 abbrev pub WordsSay : AsciiRun → Said → Type 0
@@ -57,7 +57,7 @@ ScanSays bytes r s = (input : Slice bytes) × (x : Option AsciiRunScan) × ScanL
 
 -- the call may say this: given slices that have these numbers, and lent buffers of the stated lengths. Of a buffer, what stands in front counts
 abbrev pub Answers : Call → Said → Type 0
-Answers (classify row state) s = (r : Slice row) × (x : Got) × ClassifyAnswers r.0 state x × (s ≡ of_runs.said x.answer)
+Answers (classify row state) s = (r : Slice row) × (x : Got) × ClassifyAnswers r.0 state x × (s ≡ of_runs.got_said x)
 Answers (words row state) s = ClassifiedThen row state WordsSay s
 Answers (scan row state bytes) s = ClassifiedThen row state (ScanSays bytes) s
 Answers (decode list room) s =
