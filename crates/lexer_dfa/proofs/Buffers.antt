@@ -31,6 +31,7 @@ use Rattle.law_rows.proofs.Flips.{segment_mask_lem}
 use Rattle.law_rows.proofs.Found.{found_is}
 use Rattle.row_build.proofs.Joining.{length-numbers}
 use Rattle.lexer_dfa.specs.Demand3.{bit_at, searched_for, bit_from, point_bit}
+use Rattle.std.specs.Prelude.{Ok}
 
 -- Numbers in front of zeros
 
@@ -52,7 +53,7 @@ module _ (n : ℕ) (xs : List ℕ) where
 pub searched_is : (d n : ℕ) (rs : Row) (p : ℕ) → searched_for d (padded n (numbers rs)) (length (numbers rs)) p ≡ goal_at d rs p
 searched_is d n rs p =
     let threes : length (numbers rs) / 3 ≡ length rs = omega (arith, length-numbers rs) in
-    ap (λ (k : ℕ). given (found (padded n (numbers rs)) p k 0) (λ goal. goal) d d) threes
+    ap (λ (k : ℕ). given (Ok (found (padded n (numbers rs)) p k 0)) (λ goal. goal) d d) threes
     ∙ found_is d (padded n (numbers rs)) p 0 rs (zeros (n - length (numbers rs))) (padded-stands n (numbers rs))
 
 -- .. is searched as a row of the same numbers is in a table
@@ -62,7 +63,7 @@ searched-front d buffer n rs p size e =
     let threes : n / 3 ≡ length rs = omega (arith, length-numbers rs) in
     let stands : At buffer 0 (numbers rs ++ drop n buffer) =
     same (start buffer) (sym (take-append-drop n buffer) ∙ ap (λ (x : List ℕ). x ++ drop n buffer) (sym e)) in
-    ap (λ (k : ℕ). given (found buffer p k 0) (λ goal. goal) d d) threes ∙ found_is d buffer p 0 rs (drop n buffer) stands
+    ap (λ (k : ℕ). given (Ok (found buffer p k 0)) (λ goal. goal) d d) threes ∙ found_is d buffer p 0 rs (drop n buffer) stands
 
 -- A mask in its buffer
 

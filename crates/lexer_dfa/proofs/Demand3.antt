@@ -129,7 +129,7 @@ record Told (targets conts : List ℕ) (ts : List Transition) (x : Result Rows R
 
 told : {targets conts : List ℕ} {ts : List Transition} (x : Result Rows Refusal) → said x ≡ counted targets conts (parsed ts) → Told targets conts ts x
 unfolding counted
-told (Ok (record { wide = n; escape = m })) e = record { wide = n; escape = m; is = refl }
+told (Ok r) e = record { wide = r.wide; escape = r.escape; is = refl }
 told (Err r) e = let z : ◌≡◌ {A = ℕ} 0 1 = cc in absurd (omega arith)
 
 parsed_is : (x : Parsed) → is_parsed x ≡ true → x ≡ parsed (accepted x)
@@ -277,7 +277,7 @@ rows_in_table a n m l x t s i =
 -- Masks
 
 counted_masks : {n k : ℕ} (x : Result Masks Refusal) → masks.said x ≡ ok (n ∷ k ∷ []) → x ≡ Ok (record { masks = n; words = k })
-counted_masks (Ok (record { masks = a; words = b })) e = cc
+counted_masks (Ok c) e = cc
 counted_masks (variant.Refused r) e = let z : ◌≡◌ {A = ℕ} 0 1 = cc in absurd (omega arith)
 
 matrix_kept : (w : List ℕ) (x : Result Masks Refusal) (n k : ℕ) (s m : List ℕ) → ListAccepted w → Matrix x n s k m (parsed (list_of w)) → MasksKept w x s m

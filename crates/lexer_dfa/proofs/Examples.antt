@@ -10,7 +10,7 @@ use Rattle.run_ranges.specs.Ranges.{joined, ranges_from, up_to_four, in_ranges}
 use Rattle.run_class.specs.Byte.{up_from}
 use Rattle.run_shape.specs.Shape.{held}
 use Rattle.run_shape.specs.Classify.{exits_from, by_ranges, by_exits, classified}
-use Rattle.run_shape.specs.Scan.{stops, scan_said}
+use Rattle.run_shape.specs.Scan.{stops, scan_of, scan_said}
 use Rattle.run_shape.specs.Words.{or_field, short_run, read_at}
 use Rattle.word_reader.specs.Parse.{and_then, word, fields, block, many, section, both}
 use Rattle.word_reader.specs.Records.{any, target, start}
@@ -40,7 +40,7 @@ use Rattle.row_build.specs.Answer.{with_rows, ascii_in, wide_in}
 use Rattle.lexer_dfa.specs.Sheet.{◌says◌, transitions, Right, row_on, sheet}
 
 pub sheet_right : Right sheet
-unfolding row_on up_from some before joined ranges_from up_to_four in_ranges held exits_from by_ranges by_exits classified stops scan_said lists.every
+unfolding row_on up_from some before joined ranges_from up_to_four in_ranges held exits_from by_ranges by_exits classified stops scan_of lists.every
     or_field short_run read_at fields any target start block word and_then many section both place_of closed layout_of laid_out decoded_from judged every_from
     walk every every_in good none_or present state_good targets classified_words stands run_good both_good wide_good escape_good first_broken padded any_has holds
     hold_at orderly in_order clip clips gaps intervals all_intervals size_at number_at pairs_at shape_of trans_of body_at record_at more of_list.onward parse_from insert

@@ -10,7 +10,7 @@ use Rattle.refusal.specs.Said.{ok, no, STATE}
 use Rattle.refusal.specs.Lists.{pick}
 use Rattle.run_shape.specs.Shape.{none}
 use Rattle.run_shape.specs.Classify.{classification}
-use Rattle.run_shape.specs.Scan.{skipped, scan_said, scanned_by}
+use Rattle.run_shape.specs.Scan.{skipped, scan_of, scan_said, scanned_by}
 use Rattle.run_classify.proofs.Described.{run_said}
 use Rattle.look_scan.specs.StateScan as scan
 use Rattle.look_runs.specs.StateRun.{ascii_run, skipped_by}
@@ -43,7 +43,7 @@ decoded_looks words room f enough x left d modes states count e =
     (a, subst (Looks t) is (room_looks t a.fields a.rules l n), subst Never is (room_never t a.fields a.rules l n))
 
 none_said : (bs : List ℕ) → scan_said none bs ≡ ok []
-unfolding scan_said
+unfolding scan_of
 none_said bs = refl
 
 -- "Over ASCII-only bytes, a state's run, where it has one, is the longest front part on which it loops": the scans by the run of a state, in any room that has
@@ -67,7 +67,7 @@ state_scan_is_longest words room f enough x left d modes states count e lent is 
     q.2 ∙ ap (λ w. scanned_by (ascii_run w s) bs) is ∙ looks.scan s bs ∙ ap (λ b. pick b (scan_said c bs) (no STATE 0)) (lt-ltb _ _ l) in
     let skips : skipped_by (ascii_run lent.now s) bs ≡ n =
     ap (λ w. skipped_by (ascii_run w s) bs) is ∙ looks.scan_part s bs ∙ ap (λ b. pick b n 0) (lt-ltb _ _ l) in
-    let runs : c ≡ none → ⊥ = λ u. some (said_one says Ok None (told ∙ ap (λ r. scan_said r bs) u ∙ none_said bs)) in (
+    let runs : c ≡ none → ⊥ = λ u. some (said_one says (Ok None) (told ∙ ap (λ r. scan_said r bs) u ∙ none_said bs)) in (
       a,
       record {
         bytes = n;

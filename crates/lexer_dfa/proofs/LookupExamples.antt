@@ -9,7 +9,7 @@ use Rattle.refusal.specs.Fixed.{NONE, tag, ESCAPE-STATE, DEAD-STATE}
 use Rattle.refusal.specs.Lists.{some, every, before}
 use Rattle.run_shape.specs.Shape.{held}
 use Rattle.run_shape.specs.Words.{or_field, short_run, read_at}
-use Rattle.run_shape.specs.Scan.{stops, scan_said, scanned_by}
+use Rattle.run_shape.specs.Scan.{stops, scan_of, scan_said, scanned_by}
 use Rattle.room_find.specs.Room.{record_in, listed_in, past_lists, listed_at, state_at, follow}
 use Rattle.look_row.specs.Search.{found, searched, given}
 use Rattle.look_modes.specs.Start.{mode_at, mode_start}
@@ -104,5 +104,5 @@ kept = (refl, refl)
 scanned : (scanned_by (ascii_run room 1) (200 ∷ 65 ∷ 34 ∷ []) ≡ ok (2 ∷ 1 ∷ []))
     × (scanned_by (ascii_run room 0) (200 ∷ 65 ∷ 34 ∷ []) ≡ ok (3 ∷ 0 ∷ []))
     × (scanned_by (ascii_run room 2) [] ≡ no STATE 0)
-unfolding follow state_at record_in ascii_run run_of listed_at past_lists listed_in run_in read_at short_run or_field held every some before stops scan_said
+unfolding follow state_at record_in ascii_run run_of listed_at past_lists listed_in run_in read_at short_run or_field held every some before stops scan_of
 scanned = (refl, refl, refl)

@@ -29,6 +29,8 @@ use Rattle.lexer_dfa.specs.Parts.{AcceptRecordAnswers, AcceptActionsAnswers, Con
 use Rattle.lexer_dfa.specs.Parts.{AcceptActionsSpanAnswers, ContextsSpanAnswers, ConfigsSpanAnswers, ActionsOf, PartsOf, Names}
 use Rattle.std.specs.Prelude.{Result}
 use Rattle.room_find.specs.declared.Missing.{Missing}
+use Rattle.room_find.specs.declared.Missing.TheVariants.{Absent, Outside}
+use Rattle.std.specs.Prelude.{Ok, Err}
 
 -- The numbers of a list from a place on
 
@@ -52,7 +54,7 @@ module _ (w : List ℕ) where
 -- Accepts
 
 module _ (w : List ℕ) (i : ℕ) where
-  no_actions : {x : Result AcceptRecord Missing} {actions : List ℕ} → actions ≡ [] → ((rule k : ℕ) (flag : Bool) → x ≡ accept.Record rule flag k → ⊥) → ActionsOf x w actions
+  no_actions : {x : Result AcceptRecord Missing} {actions : List ℕ} → actions ≡ [] → ((rule k : ℕ) (flag : Bool) → x ≡ Ok (record { rule = rule; consumed_eof = flag; actions = k }) → ⊥) → ActionsOf x w actions
   no_actions q n = record { not_table_lem = λ z. q; no_record = λ z. q; of_record = λ rule k flag z. absurd (n rule k flag z) }
 
   -- by what is found
@@ -60,11 +62,11 @@ module _ (w : List ℕ) (i : ℕ) where
       accepts.said x ≡ follow y (λ p. ok (get_or w p 0 ∷ pick (not (eqb (get_or w (p + 1) 0) 0)) 1 0 ∷ get_or w (p + 2) 0 ∷ [])) (ok []) (no NOT-TABLE 0) →
       actions ≡ take (follow y (λ p. get_or w (p + 2) 0 * 3) 0 0) (drop (follow y (λ p. p + 3) 0 0) w) → ActionsOf x w actions
   unfolding follow
-  actions_of x actions (At p) e s q =
+  actions_of x actions (Ok p) e s q =
       let k = get_or w (p + 2) 0 in
       let word = get_or w (p + 1) 0 in
       let after = drop (k * 3) (drop (p + 3) w) in
-      let x_is : x ≡ accept.Record (get_or w p 0) (not (eqb word 0)) k = record_said_one x (accept.Record (get_or w p 0) (not (eqb word 0)) k) s in
+      let x_is : x ≡ Ok (record { rule = (get_or w p 0); consumed_eof = (not (eqb word 0)); actions = k }) = record_said_one x (Ok (record { rule = (get_or w p 0); consumed_eof = (not (eqb word 0)); actions = k })) s in
       let l = whole w i e in
       let n : length actions ≡ k * 3 = ap length q ∙ length-take-le (k * 3) (drop (p + 3) w) (omega (arith, l, length-drop (p + 3) w)) in
       let behind : drop (p + 3) w ≡ actions ++ after = sym (take-append-drop (k * 3) (drop (p + 3) w)) ∙ ap (λ m. m ++ after) (sym q) in
@@ -87,7 +89,7 @@ module _ (w : List ℕ) (i : ℕ) where
               sym is-flag,
             );
       }
-  actions_of x actions Absent e s q = no_actions q (λ rule k flag z. let c = sym s ∙ ap accepts.said z in let o : ◌≡◌ {A = ℕ} 0 1 = cc in omega arith)
+  actions_of x actions (Err Absent) e s q = no_actions q (λ rule k flag z. let c = sym s ∙ ap accepts.said z in let o : ◌≡◌ {A = ℕ} 0 1 = cc in omega arith)
   actions_of x actions Outside e s q = no_actions q (λ rule k flag z. let c = sym s ∙ ap accepts.said z in let o : ◌≡◌ {A = ℕ} 0 1 = cc in omega arith)
 
 -- the part of an accept's actions: empty where the room is refused or has no such record, and else the record's
@@ -98,22 +100,22 @@ accept_parts room number x a actions p = actions_of room.now number x actions.no
 -- Continuations
 
 -- where one step led on, and where it could not
-onward : {A : Type 0} (x : Result ℕ Missing) (k : ℕ → A) (a o t : A) → (a ≡ t → ⊥) → (o ≡ t → ⊥) → follow x k a o ≡ t → (q : ℕ) × (x ≡ At q) × (k q ≡ t)
+onward : {A : Type 0} (x : Result ℕ Missing) (k : ℕ → A) (a o t : A) → (a ≡ t → ⊥) → (o ≡ t → ⊥) → follow x k a o ≡ t → (q : ℕ) × (x ≡ Ok q) × (k q ≡ t)
 unfolding follow
-onward (At q) k a o t f g h = (q, refl, h)
+onward (Ok q) k a o t f g h = (q, refl, h)
 onward Absent k a o t f g h = absurd (f h)
 onward Outside k a o t f g h = absurd (g h)
 
-not_outside : {q : ℕ} → Outside ≡ At q → ⊥
+not_outside : {q : ℕ} → Outside ≡ Ok q → ⊥
 not_outside e = let z : ◌≡◌ {A = ℕ} 0 1 = cc in omega arith
 
-no_span : {p q z : ℕ} → found.Outside ≡ found.Spans p q z → ⊥
+no_span : {p q z : ℕ} → (Err Outside) ≡ found.Spans p q z → ⊥
 no_span e = let z : ◌≡◌ {A = ℕ} 0 1 = cc in omega arith
 
-absent_span : {p q z : ℕ} → found.Absent ≡ found.Spans p q z → ⊥
+absent_span : {p q z : ℕ} → (Err Absent) ≡ found.Spans p q z → ⊥
 absent_span e = let z : ◌≡◌ {A = ℕ} 0 1 = cc in omega arith
 
-config_end : (w : List ℕ) (e p : ℕ) {q : ℕ} → configs.past_config w e p ≡ At q → (get_or w (p + 5) 0 * 3 + (p + 6) ≡ q) × (q ≤ e)
+config_end : (w : List ℕ) (e p : ℕ) {q : ℕ} → configs.past_config w e p ≡ Ok q → (get_or w (p + 5) 0 * 3 + (p + 6) ≡ q) × (q ≤ e)
 unfolding configs.past_config
 config_end w e p {q} h =
     let n = get_or w (p + 5) 0 in
@@ -123,7 +125,7 @@ config_end w e p {q} h =
     let b : n * 3 + (p + 6) ≤ e = leb-true (n * 3 + (p + 6)) e h₂.0 in
     (s, omega arith)
 
-contexts_end : (e p n : ℕ) {q : ℕ} → configs.past_contexts e p n ≡ At q → (n * 3 + (p + 1) ≡ q) × (q < e)
+contexts_end : (e p n : ℕ) {q : ℕ} → configs.past_contexts e p n ≡ Ok q → (n * 3 + (p + 1) ≡ q) × (q < e)
 unfolding configs.past_contexts
 contexts_end e p n {q} h =
     let h₁ = held (ltb (n * 3 + (p + 1)) e) h in
@@ -131,17 +133,17 @@ contexts_end e p n {q} h =
     let b : n * 3 + (p + 1) < e = ltb-true (n * 3 + (p + 1)) e h₁.0 in
     (s, omega arith)
 
-configs_end : (w : List ℕ) (e n p : ℕ) {z : ℕ} → configs.past_configs w e n p ≡ At z → p ≤ e → z ≤ e
+configs_end : (w : List ℕ) (e n p : ℕ) {z : ℕ} → configs.past_configs w e n p ≡ Ok z → p ≤ e → z ≤ e
 unfolding configs.past_configs
 configs_end w e zero p {z} h k = let q : p ≡ z = cc in omega arith
 configs_end w e (suc n) p {z} h k =
-    let o = onward (configs.past_config w e p) (configs.past_configs w e n) Outside Outside (At z) not_outside not_outside h in
+    let o = onward (configs.past_config w e p) (configs.past_configs w e n) Outside Outside (Ok z) not_outside not_outside h in
     configs_end w e n o.0 o.2 (config_end w e p o.1).1
 
 -- a record that is found whole has as many contexts as their count says, and as many configs
 record Walked (w : List ℕ) (p q z : ℕ) : Type 0 where
   counted : get_or w p 0 * 3 + (p + 1) ≡ q
-  walked : configs.past_configs w (words_end w) (get_or w q 0) (q + 1) ≡ At z
+  walked : configs.past_configs w (words_end w) (get_or w q 0) (q + 1) ≡ Ok z
   ends : z ≤ words_end w
   words : words_end w ≤ length w
 
@@ -150,9 +152,9 @@ unfolding configs.whole_at configs.whole_from configs.whole_behind
 walked_whole w i {p} {q} {z} h =
     let e = words_end w in
     let t : Result Whole Missing = found.Spans p q z in
-    let a = onward (listed_at w 8 i) (configs.whole_from w e) found.Absent found.Outside t absent_span no_span h in
-    let b = onward (configs.past_contexts e a.0 (get_or w a.0 0)) (configs.whole_behind w e a.0) found.Outside found.Outside t no_span no_span a.2 in
-    let c = onward (configs.past_configs w e (get_or w b.0 0) (b.0 + 1)) (found.Spans a.0 b.0) found.Outside found.Outside t no_span no_span b.2 in
+    let a = onward (listed_at w 8 i) (configs.whole_from w e) (Err Absent) (Err Outside) t absent_span no_span h in
+    let b = onward (configs.past_contexts e a.0 (get_or w a.0 0)) (configs.whole_behind w e a.0) (Err Outside) (Err Outside) t no_span no_span a.2 in
+    let c = onward (configs.past_configs w e (get_or w b.0 0) (b.0 + 1)) (found.Spans a.0 b.0) (Err Outside) (Err Outside) t no_span no_span b.2 in
     let l = listed_lies w 8 i a.1 in
     let m = contexts_end e a.0 (get_or w a.0 0) b.1 in
     let n = configs_end w e (get_or w b.0 0) (b.0 + 1) {z = c.0} c.1 (omega (arith, m.1)) in
@@ -162,7 +164,7 @@ walked_whole w i {p} {q} {z} h =
     let p₃ : c.0 ≡ z = cc in
     record {
       counted = subst (λ k. get_or w k 0 * 3 + (k + 1) ≡ q) p₁ (◌∙◌ {b = b.0} m.0 p₂);
-      walked = subst (λ k. configs.past_configs w e (get_or w k 0) (k + 1) ≡ At z) p₂ (◌∙◌ {b = At c.0} c.1 (ap At {x = c.0} p₃));
+      walked = subst (λ k. configs.past_configs w e (get_or w k 0) (k + 1) ≡ Ok z) p₂ (◌∙◌ {b = Ok c.0} c.1 (ap At {x = c.0} p₃));
       ends = omega arith;
       words = l.inside;
     }
@@ -181,7 +183,7 @@ actions_are (suc n) (a ∷ b ∷ c ∷ l) e =
     (x ∷ r.0, ap suc r.1, ap (λ m. a ∷ b ∷ c ∷ m) r.2)
 
 -- what is walked past as n configs is n configs
-configs_are : (w : List ℕ) (e : ℕ) → e ≤ length w → (n p z : ℕ) → configs.past_configs w e n p ≡ At z → p ≤ e →
+configs_are : (w : List ℕ) (e : ℕ) → e ≤ length w → (n p z : ℕ) → configs.past_configs w e n p ≡ Ok z → p ≤ e →
     (p ≤ z) × (xs : List Config) × (length xs ≡ n) × (take (z - p) (drop p w) ≡ each config_words xs)
 unfolding configs.past_configs each
 configs_are w e l zero p z h k =
@@ -189,7 +191,7 @@ configs_are w e l zero p z h k =
     let o : z - p ≡ 0 = omega arith in
     (omega arith, [], refl, ap (λ n. take n (drop p w)) o)
 configs_are w e l (suc n) p z h k =
-    let o = onward (configs.past_config w e p) (configs.past_configs w e n) Outside Outside (At z) not_outside not_outside h in
+    let o = onward (configs.past_config w e p) (configs.past_configs w e n) Outside Outside (Ok z) not_outside not_outside h in
     let q = o.0 in
     let c = config_end w e p o.1 in
     let r = configs_are w e l n q z o.2 c.1 in
@@ -222,7 +224,7 @@ configs_are w e l (suc n) p z h k =
     )
 
 module _ (w : List ℕ) (i : ℕ) where
-  no_parts : {x : Result ContinuationRecord Missing} {cs ds : List ℕ} → cs ≡ [] → ds ≡ [] → ((n m : ℕ) → x ≡ continuation.Record n m → ⊥) → PartsOf x w cs ds
+  no_parts : {x : Result ContinuationRecord Missing} {cs ds : List ℕ} → cs ≡ [] → ds ≡ [] → ((n m : ℕ) → x ≡ Ok (record { contexts = n; configs = m }) → ⊥) → PartsOf x w cs ds
   no_parts c d f = record { not_table_lem = λ z. (c, d); no_record = λ z. (c, d); of_record = λ n m z. absurd (f n m z) }
 
   -- by what is found
@@ -236,7 +238,7 @@ module _ (w : List ℕ) (i : ℕ) where
       let m = get_or w q 0 in
       let l = lies w i e in
       let k = walked_whole w i e in
-      let x_is : x ≡ continuation.Record n m = said_one x (continuation.Record n m) s in
+      let x_is : x ≡ Ok (record { contexts = n; configs = m }) = said_one x (Ok (record { contexts = n; configs = m })) s in
       let size : length cs ≡ n * 3 = ap length c ∙ part_length w (p + 1) q l.contexts (omega (arith, l.configs, l.inside)) ∙ (omega (arith, k.counted)) in
       let walk = configs_are w (words_end w) k.words m (q + 1) z k.walked (omega (arith, l.configs, k.ends)) in
       let there : w ≡ take p w ++ (n ∷ (cs ++ (m ∷ (ds ++ drop z w)))) = sym (take-append-drop p w) ∙ ap (λ v. take p w ++ v) (
@@ -259,8 +261,8 @@ module _ (w : List ℕ) (i : ℕ) where
               there ∙ ap (λ v. take p w ++ (v ∷ (cs ++ (m ∷ (ds ++ drop z w))))) is-n ∙ ap (λ v. take p w ++ (j ∷ (cs ++ (v ∷ (ds ++ drop z w))))) is_m,
             );
       }
-  parts_of x cs ds found.Absent e s c d = no_parts c d (λ n m z. let t = sym s ∙ ap configs.said z in let o : ◌≡◌ {A = ℕ} 0 1 = cc in omega arith)
-  parts_of x cs ds found.Outside e s c d = no_parts c d (λ n m z. let t = sym s ∙ ap configs.said z in let o : ◌≡◌ {A = ℕ} 0 1 = cc in omega arith)
+  parts_of x cs ds (Err Absent) e s c d = no_parts c d (λ n m z. let t = sym s ∙ ap configs.said z in let o : ◌≡◌ {A = ℕ} 0 1 = cc in omega arith)
+  parts_of x cs ds (Err Outside) e s c d = no_parts c d (λ n m z. let t = sym s ∙ ap configs.said z in let o : ◌≡◌ {A = ℕ} 0 1 = cc in omega arith)
 
 -- the parts of a continuation: empty where the room is refused or has no such record, and else the record's
 pub continuation_parts : (room : Bor (List ℕ)) (number : ℕ) (x : Result ContinuationRecord Missing) → ContinuationRecordAnswers room number x →

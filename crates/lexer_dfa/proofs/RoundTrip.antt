@@ -35,11 +35,11 @@ use Rattle.room_decode.specs.Decode.{Decoding}
 
 -- an answer that says a table's counts is a table
 pub said-accepted : (x : Decoding) {l : List ℕ} → decoding.said x ≡ ok l → accepted x ≡ true
-said-accepted (Ok (record { modes = m; states = s; words = w })) e = refl
+said-accepted (Ok t) e = refl
 said-accepted (Err r) e = let z : ◌≡◌ {A = ℕ} 0 1 = cc in absurd (omega arith)
 
 accepted-said : (x : Decoding) → accepted x ≡ true → (m : ℕ) × (s : ℕ) × (w : ℕ) × (decoding.said x ≡ ok (m ∷ s ∷ w ∷ []))
-accepted-said (Ok (record { modes = m; states = s; words = w })) e = (m, s, w, refl)
+accepted-said (Ok t) e = (t.modes, t.states, t.words, refl)
 accepted-said (Err r) e = absurd (false≢true e)
 
 -- the words that are left in a room are as many as were decoded into it

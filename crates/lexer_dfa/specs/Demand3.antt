@@ -86,7 +86,7 @@ pub record Asked (a : RowArgs) : Type 0 where
 
 -- "looked up": the first n numbers of a buffer, three to a range, are searched as a lookup searches a row in a room; `other` is given where no range holds p
 abbrev pub searched_for : ℕ → List ℕ → ℕ → ℕ → ℕ
-searched_for other row n p = given (found row p (n / 3) 0) (λ goal. goal) other other
+searched_for other row n p = given (Ok (found row p (n / 3) 0)) (λ goal. goal) other other
 
 -- "0 to 127 use the ascii row; otherwise" the wide row, of n numbers
 abbrev pub target_at : RowsLeft → ℕ → ℕ → ℕ

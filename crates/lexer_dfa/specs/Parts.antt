@@ -19,6 +19,8 @@ use Rattle.look_continuation_records.proofs.continuation_contexts_span.Reads as 
 use Rattle.look_continuation_records.proofs.continuation_configs_span.Reads as continuation_configs_span
 use Rattle.std.specs.Prelude.{Result}
 use Rattle.room_find.specs.declared.Missing.{Missing}
+use Rattle.room_find.specs.declared.Missing.TheVariants.{Absent, Outside}
+use Rattle.std.specs.Prelude.{Ok, Err}
 
 -- x is what the call may answer by its own contract
 abbrev pub AcceptRecordAnswers : (room : Bor (List ℕ)) (number : ℕ) → Result AcceptRecord Missing → Type 0
@@ -47,19 +49,19 @@ ConfigsSpanAnswers room number x = (κs : Lfts 1) × (e : _) × continuation_con
 
 -- "rule, consumed-EOF flag, action count, actions of three words": of the record that x tells, `actions` is the part that is handed back of the room w
 pub record ActionsOf (x : Result AcceptRecord Missing) (w actions : List ℕ) : Type 0 where
-  pub not_table_lem : x ≡ accept.NotTable → actions ≡ []
-  pub no_record : x ≡ accept.NoRecord → actions ≡ []
+  pub not_table_lem : x ≡ Err Outside → actions ≡ []
+  pub no_record : x ≡ Err Absent → actions ≡ []
   -- there are k of them, and they stand in the room behind the record's rule, its flag and k
-  pub of_record : (rule k : ℕ) (flag : Bool) → x ≡ accept.Record rule flag k → (length actions ≡ k * 3)
+  pub of_record : (rule k : ℕ) (flag : Bool) → x ≡ Ok (record { rule = rule; consumed_eof = flag; actions = k }) → (length actions ≡ k * 3)
       × (before : List ℕ) × (word : ℕ) × (after : List ℕ) × (w ≡ before ++ (rule ∷ word ∷ k ∷ (actions ++ after))) × (flag ≡ not (eqb word 0))
 
 -- "context count, contexts (kind 0 or 1, two words), config count, configs (state, alternative rule or NONE, two flags, context, action count, actions)": of
 -- the record that x tells, these are the parts that are handed back of the room w
 pub record PartsOf (x : Result ContinuationRecord Missing) (w contexts configs : List ℕ) : Type 0 where
-  pub not_table_lem : x ≡ continuation.NotTable → (contexts ≡ []) × (configs ≡ [])
-  pub no_record : x ≡ continuation.NoRecord → (contexts ≡ []) × (configs ≡ [])
+  pub not_table_lem : x ≡ Err Outside → (contexts ≡ []) × (configs ≡ [])
+  pub no_record : x ≡ Err Absent → (contexts ≡ []) × (configs ≡ [])
   -- there are n contexts and m configs, and they stand in the room behind n and m
-  pub of_record : (n m : ℕ) → x ≡ continuation.Record n m → (length contexts ≡ n * 3)
+  pub of_record : (n m : ℕ) → x ≡ Ok (record { contexts = n; configs = m }) → (length contexts ≡ n * 3)
       × ((xs : List Config) × (length xs ≡ m) × (configs ≡ each config_words xs))
       × (before : List ℕ) × (after : List ℕ) × (w ≡ before ++ (n ∷ (contexts ++ (m ∷ (configs ++ after)))))
 
