@@ -16,14 +16,13 @@ use Rattle.run_ranges.specs.Ranges.{loops_at, exits_at, ranges_from}
 use Rattle.run_ranges.proofs.Maximal.{passing-row, ranges_hold, ranges_ordered}
 use Rattle.run_shape.specs.declared.AsciiRun.{AsciiRun}
 use Rattle.run_shape.specs.declared.AsciiRun.TheVariants as runs
-use Rattle.run_shape.specs.Shape.{none}
+use Rattle.run_shape.specs.Shape.{Shape, none, any, until, ranges}
 use Rattle.run_shape.specs.Classify.{exits_from, classification}
-use Rattle.run_shape.specs.Scan.{stops, skipped}
+use Rattle.run_shape.specs.Scan.{stops, skipped, skipped_to, scan_of}
 use Rattle.run_classify.proofs.Described.{exits_hold, exits_ascend, gives_any, gives_until, gives_ranges, gives_none}
-use Rattle.run_classify.proofs.Described.{classification-stops, run_said, ran_row, ran_shape, ran_some}
-use Rattle.run_scan.proofs.ScanSaid.{scanned_one}
+use Rattle.run_classify.proofs.Described.{classification-stops, ran_row, ran_shape, ran_some}
 use Rattle.lexer_dfa.specs.Demands.{AsciiOnly, LoopsOn, Longest, ScansLongest, run_tells, ClassifyAnswers, ScanAnswers, ScanLengthAnswers, Described}
-use Rattle.std.specs.Prelude.{Ok, Option}
+use Rattle.std.specs.Prelude.{Ok, Option, Some}
 use Rattle.run_shape.specs.Shape.{Got}
 use Rattle.run_shape.specs.declared.AsciiRunScan.{AsciiRunScan}
 
@@ -74,6 +73,14 @@ run_is_longest state row w n bs a =
       here : (i : ℕ) → i < length bs → stops (classification state row) (get_or bs i 0) ≡ exits_at state (get_or row (get_or bs i 0) 0)
       here i h = classification-stops state row n (get_or bs i 0) (omega (arith, a i h))
 
+-- where there is a run, the scan answers how far it goes
+pub scan_some : (s : Shape) (bs : List ℕ) → (s ≡ none → ⊥) → scan_of s bs ≡ Some (skipped_to (skipped s bs) bs)
+unfolding scan_of
+scan_some none bs n = absurd (n refl)
+scan_some any bs n = refl
+scan_some (until es) bs n = refl
+scan_some (ranges rs) bs n = refl
+
 -- the same of the calls, by their own contracts: where `classify` answers a run that is not none, the scans by it hand back that front part
 pub scan_is_longest : (row : Bor (List ℕ)) (state : ℕ) (x : Got) → ClassifyAnswers row state x → (run : AsciiRun) →
     x ≡ Ok run → (run ≡ runs.None → ⊥) →
@@ -82,9 +89,9 @@ pub scan_is_longest : (row : Bor (List ℕ)) (state : ℕ) (x : Got) → Classif
     (says : Option AsciiRunScan) → ScanLengthAnswers run input says →
     ScansLongest run_tells (LoopsOn state row.now) input part says
 scan_is_longest row state x c run r n input a part p says l =
-    let w = (ran_row state row.now x run c.2 r).0 in
-    let e = ran_shape state row.now x run c.2 r in
-    let m = ran_some state row.now x run c.2 r n in
+    let w = (ran_row state row.now run (sym r ∙ c.2)).0 in
+    let e = ran_shape state row.now run (sym r ∙ c.2) in
+    let m = ran_some state row.now run (sym r ∙ c.2) n in
     let s = classification state row.now in
     let b = skipped s input.now in
     record {
@@ -92,5 +99,5 @@ scan_is_longest row state x c run r n input a part p says l =
       longest = run_is_longest state row.now w m input.now a;
       front = rw e at p.2.0;
       itself = p.2.1;
-      told = scanned_one says (run_tells b (ltb b (length input.now))) ((rw e at l.2) ∙ run_said s input.now m);
+      told = (rw e at l.2) ∙ scan_some s input.now m;
     }

@@ -277,8 +277,11 @@ rows_in_table a n m l x t s i =
 -- Masks
 
 counted_masks : {n k : ℕ} (x : Result Masks Refusal) → masks.said x ≡ ok (n ∷ k ∷ []) → x ≡ Ok (record { masks = n; words = k })
-counted_masks (Ok c) e = cc
-counted_masks (variant.Refused r) e = let z : ◌≡◌ {A = ℕ} 0 1 = cc in absurd (omega arith)
+counted_masks {n} {k} (Ok c) e =
+    let a : c.masks ≡ n = cc in
+    let b : c.words ≡ k = cc in
+    ap₂ {C = Result Masks Refusal} (λ m w. Ok (record { masks = m; words = w })) a b
+counted_masks (Err r) e = let z : ◌≡◌ {A = ℕ} 0 1 = cc in absurd (omega arith)
 
 matrix_kept : (w : List ℕ) (x : Result Masks Refusal) (n k : ℕ) (s m : List ℕ) → ListAccepted w → Matrix x n s k m (parsed (list_of w)) → MasksKept w x s m
 unfolding masks.counted segments_in masks_in

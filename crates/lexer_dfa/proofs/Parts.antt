@@ -2,7 +2,7 @@
 use Prim.Native.Nat.{ℕ, zero, suc, ◌+◌, ◌*◌, ◌-◌, ◌≤◌, ◌<◌}
 use native.Mathlib.Omega.{arith}
 use mathlib.Core.Path.{◌≡◌, refl, sym, ap, subst, ◌∙◌}
-use mathlib.Core.Bool.{Bool, not}
+use mathlib.Core.Bool.{Bool, false, not}
 use mathlib.Core.List.{List, [], ◌∷◌, ◌++◌}
 use lib.Dec.{eqb, leb, ltb}
 use lib.ListN.{length, get_or, take, drop, take-append-drop, length-drop}
@@ -53,6 +53,19 @@ module _ (w : List ℕ) where
 
 -- Accepts
 
+-- the parts of the record that is told, where one is
+abbrev rule_in : Result AcceptRecord Missing → ℕ
+rule_in (Ok a) = a.rule
+rule_in (Err m) = 0
+
+abbrev flag_in : Result AcceptRecord Missing → Bool
+flag_in (Ok a) = a.consumed_eof
+flag_in (Err m) = false
+
+abbrev count_in : Result AcceptRecord Missing → ℕ
+count_in (Ok a) = a.actions
+count_in (Err m) = 0
+
 module _ (w : List ℕ) (i : ℕ) where
   no_actions : {x : Result AcceptRecord Missing} {actions : List ℕ} → actions ≡ [] → ((rule k : ℕ) (flag : Bool) → x ≡ Ok (record { rule = rule; consumed_eof = flag; actions = k }) → ⊥) → ActionsOf x w actions
   no_actions q n = record { not_table_lem = λ z. q; no_record = λ z. q; of_record = λ rule k flag z. absurd (n rule k flag z) }
@@ -78,9 +91,9 @@ module _ (w : List ℕ) (i : ℕ) where
         no_record = λ z. let c = sym x_is ∙ z in let o : ◌≡◌ {A = ℕ} 0 1 = cc in absurd (omega arith);
         of_record = λ rule j flag z.
             let c = sym x_is ∙ z in
-            let is-rule : get_or w p 0 ≡ rule = cc in
-            let is-flag : not (eqb word 0) ≡ flag = cc in
-            let is-count : k ≡ j = cc in (
+            let is-rule : get_or w p 0 ≡ rule = ap rule_in c in
+            let is-flag : not (eqb word 0) ≡ flag = ap flag_in c in
+            let is-count : k ≡ j = ap count_in c in (
               n ∙ ap (λ m. m * 3) is-count,
               take p w,
               word,
@@ -90,7 +103,7 @@ module _ (w : List ℕ) (i : ℕ) where
             );
       }
   actions_of x actions (Err Absent) e s q = no_actions q (λ rule k flag z. let c = sym s ∙ ap accepts.said z in let o : ◌≡◌ {A = ℕ} 0 1 = cc in omega arith)
-  actions_of x actions Outside e s q = no_actions q (λ rule k flag z. let c = sym s ∙ ap accepts.said z in let o : ◌≡◌ {A = ℕ} 0 1 = cc in omega arith)
+  actions_of x actions (Err Outside) e s q = no_actions q (λ rule k flag z. let c = sym s ∙ ap accepts.said z in let o : ◌≡◌ {A = ℕ} 0 1 = cc in omega arith)
 
 -- the part of an accept's actions: empty where the room is refused or has no such record, and else the record's
 pub accept_parts : (room : Bor (List ℕ)) (number : ℕ) (x : Result AcceptRecord Missing) → AcceptRecordAnswers room number x →
@@ -103,16 +116,16 @@ accept_parts room number x a actions p = actions_of room.now number x actions.no
 onward : {A : Type 0} (x : Result ℕ Missing) (k : ℕ → A) (a o t : A) → (a ≡ t → ⊥) → (o ≡ t → ⊥) → follow x k a o ≡ t → (q : ℕ) × (x ≡ Ok q) × (k q ≡ t)
 unfolding follow
 onward (Ok q) k a o t f g h = (q, refl, h)
-onward Absent k a o t f g h = absurd (f h)
-onward Outside k a o t f g h = absurd (g h)
+onward (Err Absent) k a o t f g h = absurd (f h)
+onward (Err Outside) k a o t f g h = absurd (g h)
 
-not_outside : {q : ℕ} → Outside ≡ Ok q → ⊥
+not_outside : {q : ℕ} → ◌≡◌ {A = Result ℕ Missing} (Err Outside) (Ok q) → ⊥
 not_outside e = let z : ◌≡◌ {A = ℕ} 0 1 = cc in omega arith
 
-no_span : {p q z : ℕ} → (Err Outside) ≡ found.Spans p q z → ⊥
+no_span : {t : Whole} → ◌≡◌ {A = Result Whole Missing} (Err Outside) (Ok t) → ⊥
 no_span e = let z : ◌≡◌ {A = ℕ} 0 1 = cc in omega arith
 
-absent_span : {p q z : ℕ} → (Err Absent) ≡ found.Spans p q z → ⊥
+absent_span : {t : Whole} → ◌≡◌ {A = Result Whole Missing} (Err Absent) (Ok t) → ⊥
 absent_span e = let z : ◌≡◌ {A = ℕ} 0 1 = cc in omega arith
 
 config_end : (w : List ℕ) (e p : ℕ) {q : ℕ} → configs.past_config w e p ≡ Ok q → (get_or w (p + 5) 0 * 3 + (p + 6) ≡ q) × (q ≤ e)
@@ -137,7 +150,7 @@ configs_end : (w : List ℕ) (e n p : ℕ) {z : ℕ} → configs.past_configs w 
 unfolding configs.past_configs
 configs_end w e zero p {z} h k = let q : p ≡ z = cc in omega arith
 configs_end w e (suc n) p {z} h k =
-    let o = onward (configs.past_config w e p) (configs.past_configs w e n) Outside Outside (Ok z) not_outside not_outside h in
+    let o = onward (configs.past_config w e p) (configs.past_configs w e n) (Err Outside) (Err Outside) (Ok z) not_outside not_outside h in
     configs_end w e n o.0 o.2 (config_end w e p o.1).1
 
 -- a record that is found whole has as many contexts as their count says, and as many configs
@@ -147,24 +160,36 @@ record Walked (w : List ℕ) (p q z : ℕ) : Type 0 where
   ends : z ≤ words_end w
   words : words_end w ≤ length w
 
-walked_whole : (w : List ℕ) (i : ℕ) {p q z : ℕ} → configs.whole_at w i ≡ found.Spans p q z → Walked w p q z
+-- where the parts of a record stand that is found whole
+abbrev contexts_at : Result Whole Missing → ℕ
+contexts_at (Ok t) = t.contexts
+contexts_at (Err m) = 0
+
+abbrev configs_at : Result Whole Missing → ℕ
+configs_at (Ok t) = t.configs
+configs_at (Err m) = 0
+
+abbrev end_at : Result Whole Missing → ℕ
+end_at (Ok t) = t.end
+end_at (Err m) = 0
+
+walked_whole : (w : List ℕ) (i : ℕ) {p q z : ℕ} → configs.whole_at w i ≡ Ok (record { contexts = p; configs = q; end = z }) → Walked w p q z
 unfolding configs.whole_at configs.whole_from configs.whole_behind
 walked_whole w i {p} {q} {z} h =
     let e = words_end w in
-    let t : Result Whole Missing = found.Spans p q z in
+    let t : Result Whole Missing = Ok (record { contexts = p; configs = q; end = z }) in
     let a = onward (listed_at w 8 i) (configs.whole_from w e) (Err Absent) (Err Outside) t absent_span no_span h in
     let b = onward (configs.past_contexts e a.0 (get_or w a.0 0)) (configs.whole_behind w e a.0) (Err Outside) (Err Outside) t no_span no_span a.2 in
-    let c = onward (configs.past_configs w e (get_or w b.0 0) (b.0 + 1)) (found.Spans a.0 b.0) (Err Outside) (Err Outside) t no_span no_span b.2 in
+    let c = onward (configs.past_configs w e (get_or w b.0 0) (b.0 + 1)) (λ z. Ok (record { contexts = a.0; configs = b.0; end = z })) (Err Outside) (Err Outside) t no_span no_span b.2 in
     let l = listed_lies w 8 i a.1 in
     let m = contexts_end e a.0 (get_or w a.0 0) b.1 in
     let n = configs_end w e (get_or w b.0 0) (b.0 + 1) {z = c.0} c.1 (omega (arith, m.1)) in
-    let s : found.Spans a.0 b.0 c.0 ≡ found.Spans p q z = c.2 in
-    let p₁ : a.0 ≡ p = cc in
-    let p₂ : b.0 ≡ q = cc in
-    let p₃ : c.0 ≡ z = cc in
+    let p₁ : a.0 ≡ p = ap contexts_at c.2 in
+    let p₂ : b.0 ≡ q = ap configs_at c.2 in
+    let p₃ : c.0 ≡ z = ap end_at c.2 in
     record {
       counted = subst (λ k. get_or w k 0 * 3 + (k + 1) ≡ q) p₁ (◌∙◌ {b = b.0} m.0 p₂);
-      walked = subst (λ k. configs.past_configs w e (get_or w k 0) (k + 1) ≡ Ok z) p₂ (◌∙◌ {b = Ok c.0} c.1 (ap At {x = c.0} p₃));
+      walked = subst (λ k. configs.past_configs w e (get_or w k 0) (k + 1) ≡ Ok z) p₂ (◌∙◌ {b = Ok c.0} c.1 (ap {B = Result ℕ Missing} (λ (k : ℕ). Ok k) p₃));
       ends = omega arith;
       words = l.inside;
     }
@@ -191,7 +216,7 @@ configs_are w e l zero p z h k =
     let o : z - p ≡ 0 = omega arith in
     (omega arith, [], refl, ap (λ n. take n (drop p w)) o)
 configs_are w e l (suc n) p z h k =
-    let o = onward (configs.past_config w e p) (configs.past_configs w e n) Outside Outside (Ok z) not_outside not_outside h in
+    let o = onward (configs.past_config w e p) (configs.past_configs w e n) (Err Outside) (Err Outside) (Ok z) not_outside not_outside h in
     let q = o.0 in
     let c = config_end w e p o.1 in
     let r = configs_are w e l n q z o.2 c.1 in
@@ -223,6 +248,15 @@ configs_are w e l (suc n) p z h k =
           ∙ ap (λ j. behind (j ∷ (each action_words acts.0 ++ each config_words r.1))) (sym acts.1),
     )
 
+-- how many contexts and configs are told, where a record is
+abbrev first_in : Result ContinuationRecord Missing → ℕ
+first_in (Ok r) = r.contexts
+first_in (Err m) = 0
+
+abbrev second_in : Result ContinuationRecord Missing → ℕ
+second_in (Ok r) = r.configs
+second_in (Err m) = 0
+
 module _ (w : List ℕ) (i : ℕ) where
   no_parts : {x : Result ContinuationRecord Missing} {cs ds : List ℕ} → cs ≡ [] → ds ≡ [] → ((n m : ℕ) → x ≡ Ok (record { contexts = n; configs = m }) → ⊥) → PartsOf x w cs ds
   no_parts c d f = record { not_table_lem = λ z. (c, d); no_record = λ z. (c, d); of_record = λ n m z. absurd (f n m z) }
@@ -233,7 +267,10 @@ module _ (w : List ℕ) (i : ℕ) where
       cs ≡ take (configs.of_whole y (λ p q z. q - (p + 1)) 0 0) (drop (configs.of_whole y (λ p q z. p + 1) 0 0) w) →
       ds ≡ take (configs.of_whole y (λ p q z. z - (q + 1)) 0 0) (drop (configs.of_whole y (λ p q z. q + 1) 0 0) w) → PartsOf x w cs ds
   unfolding configs.of_whole
-  parts_of x cs ds (found.Spans p q z) e s c d =
+  parts_of x cs ds (Ok t) e s c d =
+      let p = t.contexts in
+      let q = t.configs in
+      let z = t.end in
       let n = get_or w p 0 in
       let m = get_or w q 0 in
       let l = lies w i e in
@@ -251,9 +288,9 @@ module _ (w : List ℕ) (i : ℕ) where
         not_table_lem = λ o. let t = sym x_is ∙ o in let u : ◌≡◌ {A = ℕ} 0 1 = cc in absurd (omega arith);
         no_record = λ o. let t = sym x_is ∙ o in let u : ◌≡◌ {A = ℕ} 0 1 = cc in absurd (omega arith);
         of_record = λ j k o.
-            let t = sym x_is ∙ o in
-            let is-n : n ≡ j = cc in
-            let is_m : m ≡ k = cc in (
+            let u = sym x_is ∙ o in
+            let is-n : n ≡ j = ap first_in u in
+            let is_m : m ≡ k = ap second_in u in (
               size ∙ ap (λ v. v * 3) is-n,
               (walk.1, walk.2 ∙ is_m, d ∙ walk.3),
               take p w,

@@ -24,7 +24,7 @@ use Rattle.lexer_dfa.specs.PoolsRefused.{Stand, RowAllowed, FirstEqual, NoneEqua
 use Rattle.lexer_dfa.proofs.Saying.{values_of, no_answer, by_refusal, by_number, choose}
 use Rattle.lexer_dfa.proofs.PoolRows.{stand_rows, stand_end, stand_after, stands, good_allowed, allowed_good}
 use Rattle.lexer_dfa.proofs.PoolRows.{first_there, none-there, first_one, takes, took, can_count, uncounted}
-use Rattle.std.specs.Prelude.{Result, None}
+use Rattle.std.specs.Prelude.{Result}
 
 -- numbers that are laid behind others, over what stood there
 laid_behind : (front rest new : List ℕ) (n : ℕ) → length front ≡ n → length new ≤ length rest

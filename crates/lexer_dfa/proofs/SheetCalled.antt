@@ -9,7 +9,7 @@ use Rattle.refusal.specs.Said.{Said, ok, no, no_by}
 use Rattle.run_shape.specs.declared.RunWords.{RunWords}
 use Rattle.run_shape.specs.Shape.{shape, got_said}
 use Rattle.run_shape.specs.Classify.{classified}
-use Rattle.run_shape.specs.Scan.{scan_said, scanned_by}
+use Rattle.run_shape.specs.Scan.{said, scan_said, scanned_by}
 use Rattle.room_decode.specs.Decode as codec
 use Rattle.list_transitions.specs.Read as of_list
 use Rattle.list_transitions.specs.Read.{parse}
@@ -51,7 +51,7 @@ words_said_lem : (r : AsciiRun) (s : Said) → WordsSay r s → s ≡ words_said
 words_said_lem r s (x, a, e) = e ∙ ap {B = Said} (λ (y : RunWords). ok (word_list y)) a.2
 
 scan_said_lem : (bytes : List ℕ) (r : AsciiRun) (s : Said) → ScanSays bytes r s → s ≡ scanned_by (Ok r) bytes
-scan_said_lem bytes r s (input, x, a, e) = e ∙ a.2 ∙ ap (scan_said (shape r)) input.1
+scan_said_lem bytes r s (input, x, a, e) = e ∙ ap said a.2 ∙ ap (scan_said (shape r)) input.1
 
 -- What is left in front of a buffer
 

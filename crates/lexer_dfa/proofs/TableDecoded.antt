@@ -18,7 +18,7 @@ use Rattle.lexer_dfa.specs.Demands.{DecodeAnswers, Accepted, AsciiOnly, LoopsOn,
 use Rattle.lexer_dfa.proofs.Decoding.{decode_accepts}
 use Rattle.lexer_dfa.proofs.Looking.{decoded_looks, state_scan_is_longest}
 use Rattle.lexer_dfa.proofs.Covered.{decoded_coverage}
-use Rattle.std.specs.Prelude.{Result, Option}
+use Rattle.std.specs.Prelude.{Result, Option, Ok, None}
 use Rattle.room_decode.specs.Decode.{Decoding}
 use Rattle.run_shape.specs.declared.AsciiRunScan.{AsciiRunScan}
 use Rattle.refusal.specs.declared.Refusal.{Refusal}

@@ -1,19 +1,15 @@
 -- Each public call's contract determines its answer, and what it leaves in a slice that it is lent. For it is an equation for the answer, or for what
 -- the answer says, and no two answers say one thing; and one for the list in the slice. Assumes nothing.
-use mathlib.Core.Path.{refl, sym, ap, ◌∙◌}
-use Rattle.run_ranges.proofs.none.Reads as none
+use mathlib.Core.Path.{◌≡◌, refl, sym, ap, ◌∙◌}
 use Rattle.run_ranges.proofs.from_run.Reads as from-run
 use Rattle.run_ranges.proofs.packed_words.Reads as packed-words
 use Rattle.run_scan.proofs.scan_scalar.Reads as scan-scalar
 use Rattle.run_classify.proofs.next_exit.Reads as next-exit
 use Rattle.run_classify.proofs.from_self_loops.Reads as from-self-loops
 use Rattle.run_class.proofs.class.Reads as class
-use Rattle.run_class.proofs.Classes.{said_one}
 use Rattle.run_class.proofs.class_of_byte.Reads as class-of-byte
-use Rattle.run_class.proofs.Arms.{byte_one}
 use Rattle.run_shape.proofs.refuse.Reads as refuse
 use Rattle.run_shape.proofs.serialized_words.Reads as serialized-words
-use Rattle.run_shape.proofs.Answers.{given}
 use Rattle.run_words.proofs.read_serialized.Reads as read-serialized
 use Rattle.run_words.proofs.read_alone.Reads as read-alone
 use Rattle.run_words.proofs.short_answer.Reads as short-answer
@@ -21,7 +17,6 @@ use Rattle.run_words.proofs.write_serialized.Reads as write-serialized
 use Rattle.run_classify.proofs.classify.Reads as classify
 use Rattle.run_scan.proofs.scan.Reads as scan
 use Rattle.run_scan.proofs.scan_length.Reads as scan-length
-use Rattle.run_scan.proofs.ScanSaid.{scanned_one}
 use Rattle.word_reader.proofs.short.Reads as short
 use Rattle.word_reader.proofs.field.Reads as field
 use Rattle.word_reader.proofs.left_from.Reads as left-from
@@ -72,9 +67,6 @@ use Rattle.law_unique.specs.Unique.{Determines, DeterminesPart, DeterminesBoth}
 
 -- ascii_range
 
-pub none_unique : Determines none.Learnt
-none_unique κs a x y e f p q = p ∙ sym q
-
 -- range_words
 
 pub from_run_unique : Determines from-run.Learnt
@@ -101,12 +93,12 @@ from_self_loops_unique κs a x y e f p q = p ∙ sym q
 -- range_class
 
 pub class_unique : Determines class.Learnt
-class_unique κs a x y e f p q = said_one x y (p ∙ sym q)
+class_unique κs a x y e f p q = p ∙ sym q
 
 -- byte_class
 
 pub class_of_byte_unique : Determines class-of-byte.Learnt
-class_of_byte_unique κs a x y e f p q = byte_one x y (p ∙ sym q)
+class_of_byte_unique κs a x y e f p q = p ∙ sym q
 
 -- ascii_run
 
@@ -119,10 +111,10 @@ serialized_words_unique κs a x y e f p q = p ∙ sym q
 -- run_read
 
 pub read_serialized_unique : Determines read-serialized.Learnt
-read_serialized_unique κs a x y e f p q = given _ p ∙ sym (given _ q)
+read_serialized_unique κs a x y e f p q = p ∙ sym q
 
 pub read_alone_unique : Determines read-alone.Learnt
-read_alone_unique κs a x y e f p q = given _ p ∙ sym (given _ q)
+read_alone_unique κs a x y e f p q = p ∙ sym q
 
 pub short-answer_unique : Determines short-answer.Learnt
 short-answer_unique κs a x y e f p q = p ∙ sym q
@@ -135,7 +127,7 @@ write_serialized_unique κs a x y e f p q = p ∙ sym q
 -- run_classify
 
 pub classify_unique : Determines classify.Learnt
-classify_unique κs a x y e f p q = given _ p ∙ sym (given _ q)
+classify_unique κs a x y e f p q = p ∙ sym q
 
 -- run_scan
 
@@ -143,7 +135,7 @@ pub scan_unique : DeterminesPart scan.Learnt
 scan_unique κs a x y e f p q = (p.1 ∙ sym q.1, p.0 ∙ sym q.0)
 
 pub scan_length_unique : Determines scan-length.Learnt
-scan_length_unique κs a x y e f p q = scanned_one x y (p ∙ sym q)
+scan_length_unique κs a x y e f p q = p ∙ sym q
 
 -- words
 
@@ -297,8 +289,10 @@ first_broken_unique κs a x y e f p q = p ∙ sym q
 
 -- written
 
-pub clear_unique : DeterminesBoth (λ κs e. e.0) clear.Learnt
-clear_unique κs a x y e f p q = (refl, p ∙ sym q)
+-- as `DeterminesBoth` has it, of numbers of any width
+pub clear_unique : (T laws copies number numbered clone cloned : _) (κs : _) (a : _) (x y : _) (e f : _) → clear.Learnt T laws copies number numbered clone cloned κs a x e →
+    clear.Learnt T laws copies number numbered clone cloned κs a y f → (x ≡ y) × (e.0.now ≡ f.0.now)
+clear_unique T laws copies number numbered clone cloned κs a x y e f p q = (refl, p ∙ sym q)
 
 -- room
 

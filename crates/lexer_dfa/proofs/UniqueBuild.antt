@@ -3,12 +3,12 @@
 use Prim.Native.Nat.{ℕ}
 use mathlib.Core.Path.{◌≡◌, refl, sym, ap₂, ◌∙◌}
 use mathlib.Core.List.{List, [], ◌∷◌}
-use Rattle.buffer.proofs.clear_words.Reads as clear-words
 use Rattle.list_distinct.proofs.place_masks.Reads as place-masks
 use Rattle.list_distinct.proofs.PlaceAnswers.{told_one}
 use Rattle.row_goals.proofs.target_at.Reads as target_at
 use Rattle.row_goals.proofs.goal_of.Reads as goal-of
 use Rattle.row_goals.proofs.refusal_for.Reads as refusal-for
+use Rattle.row_goals.proofs.no_goal.Reads as no-goal
 use Rattle.row_goals.proofs.touches.Reads as touches
 use Rattle.row_goals.proofs.unseen.Reads as unseen
 use Rattle.row_goals.proofs.seen_low.Reads as Seen-low
@@ -18,9 +18,6 @@ use Rattle.law_unique.specs.Unique.{Determines, DeterminesBoth, DeterminesAll}
 
 and : {x y : List ℕ} {l m : List (List ℕ)} → x ≡ y → l ≡ m → x ∷ l ≡ y ∷ m
 and a b = ap₂ {C = List (List ℕ)} (λ x l. x ∷ l) a b
-
-pub clear_words_unique : DeterminesBoth (λ κs e. e.0) clear-words.Learnt
-clear_words_unique κs a x y e f p q = (refl, p ∙ sym q)
 
 pub place_masks_unique : DeterminesAll (λ κs e. e.1.0.now ∷ e.1.1.0.now ∷ e.1.1.1.0.now ∷ e.1.1.1.1.0.now ∷ []) place-masks.Learnt
 place_masks_unique κs a x y e f p q = (
@@ -36,6 +33,9 @@ goal_of_unique κs a x y e f p q = p ∙ sym q
 
 pub refusal_for_unique : Determines refusal-for.Learnt
 refusal_for_unique κs a x y e f p q = p ∙ sym q
+
+pub no_goal_unique : Determines no-goal.Learnt
+no_goal_unique κs a x y e f p q = p ∙ sym q
 
 pub touches_unique : Determines touches.Learnt
 touches_unique κs a x y e f p q = p ∙ sym q

@@ -40,8 +40,6 @@ use Rattle.look_runs.proofs.find_run.Reads as find-run
 use Rattle.look_runs.proofs.ascii_run.Reads as ascii_run_lem
 use Rattle.look_scan.proofs.scan_ascii_run.Reads as scan-ascii-run
 use Rattle.look_scan.proofs.scan_ascii_run_length.Reads as scan-ascii-run-length
-use Rattle.look_scan.proofs.Answers as state-scan
-use Rattle.run_shape.proofs.Answers.{given}
 use Rattle.law_unique.specs.Unique.{Determines, DeterminesPart, DeterminesBoth}
 
 -- room_read
@@ -147,13 +145,13 @@ pub find_run_unique : Determines find-run.Learnt
 find_run_unique κs a x y e f p q = p ∙ sym q
 
 pub ascii_run_unique : Determines ascii_run_lem.Learnt
-ascii_run_unique κs a x y e f p q = given _ p ∙ sym (given _ q)
+ascii_run_unique κs a x y e f p q = p ∙ sym q
 
 pub scan_ascii_run_unique : DeterminesPart scan-ascii-run.Learnt
 scan_ascii_run_unique κs a x y e f p q = (p.1 ∙ sym q.1, p.0 ∙ sym q.0)
 
 pub scan_ascii_run_length_unique : Determines scan-ascii-run-length.Learnt
-scan_ascii_run_length_unique κs a x y e f p q = state-scan.said_one x y (p ∙ sym q)
+scan_ascii_run_length_unique κs a x y e f p q = p ∙ sym q
 
 -- mode_flags and mode_counts
 

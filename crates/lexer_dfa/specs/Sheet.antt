@@ -1,5 +1,5 @@
 -- The ply sheet's examples (document 01, "Ply-sheet examples"): each is a call with what it is given, and what it says. Assumes nothing.
-use Rattle.std.specs.Prelude.{ℕ, ◌*◌, ◌≡◌, List, [], ◌∷◌, ◌++◌, map, take, replicate}
+use Rattle.std.specs.Prelude.{ℕ, ◌*◌, ◌≡◌, List, [], ◌∷◌, ◌++◌, map, take, replicate, Ok, Err}
 use Rattle.refusal.specs.Said.{Said, ok, no_by, no}
 use Rattle.refusal.specs.Fixed.{tag, NONE, DEAD-STATE}
 use Rattle.refusal.specs.Lists.{pick}
@@ -7,7 +7,7 @@ use Rattle.run_ranges.specs.declared.AsciiRange.{AsciiRange}
 use Rattle.run_ranges.specs.Ranges.{range, in_ranges}
 use Rattle.run_class.specs.Byte.{up_from}
 use Rattle.run_shape.specs.declared.RunWords.{RunWords}
-use Rattle.run_shape.specs.Shape.{Got, run, refused, got_said}
+use Rattle.run_shape.specs.Shape.{Got, got_said}
 use Rattle.run_shape.specs.Classify.{classified}
 use Rattle.run_shape.specs.Words.{words_of_run}
 use Rattle.run_shape.specs.Scan.{scanned_by}
@@ -48,8 +48,8 @@ word_list w = take w.length (w.first ∷ w.second ∷ w.third ∷ [])
 
 -- what is said of the run that classification gave, or the refusal that it gave
 abbrev pub words_said : Got → Said
-words_said (run r) = ok (word_list (words_of_run r.kind r.ranges))
-words_said (refused n p) = no n p
+words_said (Ok r) = ok (word_list (words_of_run r))
+words_said (Err r) = no_by r
 
 -- what is left in front of a buffer: as many numbers as the answer's own numbers tell, or the refusal that was given
 abbrev pub left_said : (List ℕ → List ℕ) → Said → Said
