@@ -58,6 +58,8 @@ use Rattle.rule_walk.proofs.escape_rows_that_are_valid.Reads as escape-rows-that
 use Rattle.rule_walk.proofs.continuations_that_are_valid.Reads as continuations-that-are-valid
 use Rattle.rule_first.proofs.first_broken.Reads as first_broken_lem
 use Rattle.room_fill.specs.Room.{room_for}
+use Rattle.word_reader.proofs.read_many.Reads as read-many
+use Rattle.word_reader.proofs.read_section.Reads as read-any-section
 use Rattle.buffer.proofs.clear.Reads as clear
 use Rattle.room_fill.proofs.fill.Reads as fill
 use Rattle.room_decode.proofs.decode.Reads as decode
@@ -288,6 +290,13 @@ pub first_broken_unique : Determines first_broken_lem.Learnt
 first_broken_unique κs a x y e f p q = p ∙ sym q
 
 -- written
+
+-- of each kind of record
+pub read_many_unique : (R laws kept kinds : _) → Determines (read-many.Learnt R laws kept kinds)
+read_many_unique R laws kept kinds κs a x y e f p q = p ∙ sym q
+
+pub read_any_section_unique : (R laws kept kinds : _) → Determines (read-any-section.Learnt R laws kept kinds)
+read_any_section_unique R laws kept kinds κs a x y e f p q = p ∙ sym q
 
 -- as `DeterminesBoth` has it, of numbers of any width
 pub clear_unique : (T laws copies number numbered clone cloned : _) (κs : _) (a : _) (x y : _) (e f : _) → clear.Learnt T laws copies number numbered clone cloned κs a x e →
