@@ -9,9 +9,8 @@ use lib.Dec.{ltb}
 use lib.ListN.{length, get_or, get_or-eq_default}
 use borrow.Author.Tests.{ltb-true, ltb-false}
 use Rattle.refusal.specs.Said.{broken_by, no_by, no, INDEX}
-use Rattle.room_decode.specs.declared.Decoded.{Decoded}
-use Rattle.room_decode.specs.declared.Decoded.TheVariants.{Table, Refused}
-use Rattle.room_decode.specs.Decode.{said, decode_of}
+use Rattle.std.specs.Prelude.{Ok, Err}
+use Rattle.room_decode.specs.Decode.{Decoding, said, decode_of}
 use Rattle.law_tables.specs.Table.{words_of}
 use Rattle.law_tables.specs.Whole.{Fit}
 use Rattle.law_tables.specs.Rules.{Rule, FirstNot, FirstOf, in_order}
@@ -89,14 +88,14 @@ module _ (w : List ℕ) (f : Fit w) (n : ℕ) (enough : 16384 ≤ n) where
   place_small (suc (suc (suc (suc (suc (suc (suc zero))))))) p a b e = omega (arith, (((says_refused w n f).room p).0 e).0)
   place_small (suc (suc (suc (suc (suc (suc (suc (suc k)))))))) p a b e = absurd (omega arith)
 
-  answer_small : (d : Decoded) → decode_of w n ≡ d → Printable (values (said d))
-  answer_small (Table m s c) e =
-      let a = (says_accepted_exactly w n f enough m s c).0 (ap said e) in
-      let t = a.table in
+  answer_small : (d : Decoding) → decode_of w n ≡ d → Printable (values (said d))
+  answer_small (Ok t) e =
+      let a = (says_accepted_exactly w n f enough t.modes t.states t.words).0 (ap said e) in
+      let whole = a.table in
       let fits = subst Fit a.layout f in
-      omega (arith, a.of_modes, few (words_of t) fits (modes_stand t)) & omega (arith, a.of_states, few (words_of t) fits (states_stand t))
+      omega (arith, a.of_modes, few (words_of whole) fits (modes_stand whole)) & omega (arith, a.of_states, few (words_of whole) fits (states_stand whole))
       & omega (arith, a.of_words, a.limit) & tt
-  answer_small (Refused r) e = go ((says_refused w n f).no_other r (ap said e)).1
+  answer_small (Err r) e = go ((says_refused w n f).no_other r (ap said e)).1
     where
       numbered : (1 ≤ r.number) × (r.number ≤ 7)
       numbered = ((says_refused w n f).no_other r (ap said e)).0

@@ -3,8 +3,8 @@ use Rattle.std.proofs.Common.{rules, refl}
 use Rattle.tableread.proofs.Lines.{answering, no_line}
 use Rattle.tableread.proofs.line.line_of.Goals as goal
 
-pub returns-in-Table : goal.returns-in-Table
-returns-in-Table c = search answering
+pub returns-in-Ok : goal.returns-in-Ok
+returns-in-Ok c = search answering
 
-pub returns-in-Refused : goal.returns-in-Refused
-returns-in-Refused c = no_line c.line_with-in-Refused.ensures c.in-Refused.is (search rules) (search rules) refl
+pub returns-in-Err : goal.returns-in-Err
+returns-in-Err c = no_line c.line_with-in-Err.ensures c.in-Err.is (search rules) (search rules) refl
