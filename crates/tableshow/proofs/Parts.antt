@@ -12,8 +12,8 @@ use Rattle.refusal.specs.Said.{Said}
 use Rattle.refusal.specs.Fixed.{NONE, DEAD-STATE}
 use Rattle.refusal.specs.Lists.{pick}
 use Rattle.refusal.specs.Header.{RUNS-START, WIDE-START, ESCAPES-START}
-use Rattle.room_find.specs.declared.Found.{Found}
-use Rattle.room_find.specs.declared.Found.TheVariants.{At}
+use Rattle.std.specs.Prelude.{Result, Ok}
+use Rattle.room_find.specs.declared.Missing.{Missing}
 use Rattle.room_find.specs.Room.{listed_at}
 use Rattle.room_find.proofs.Records.{listed_first, ofstate}
 use Rattle.look_accepts.specs.Record.{record_of}
@@ -112,7 +112,7 @@ past (x ∷ w) zero h = absurd (not-suc-le-zero h)
 past (x ∷ w) (suc at) h = past w at (le_of_suc-le-suc h)
 
 -- a record that is found lies in the room
-pub place_low : (w : List ℕ) (k i : ℕ) {p : ℕ} {got : Found} → got ≡ listed_at w k i → got ≡ At p → length w * 4 < 2 ^ 63 → p < 2 ^ 62
+pub place_low : (w : List ℕ) (k i : ℕ) {p : ℕ} {got : Result ℕ Missing} → got ≡ listed_at w k i → got ≡ Ok p → length w * 4 < 2 ^ 63 → p < 2 ^ 62
 place_low w k i g e l = omega (arith, listed_first w k i g e)
 
 pub ruleset places = (ofstate, past, place_low)

@@ -11,11 +11,8 @@ offset_bounds-room-p c = search places
 pub bounds-room-p : goal.bounds-room-p
 bounds-room-p c = search places
 
-pub returns-in-At : goal.returns-in-At
-returns-in-At c = search places
+pub returns-in-Ok : goal.returns-in-Ok
+returns-in-Ok c = search places
 
-pub returns-in-Absent : goal.returns-in-Absent
-returns-in-Absent c = search places
-
-pub returns-in-Outside : goal.returns-in-Outside
-returns-in-Outside c = search places
+pub returns-in-Err : goal.returns-in-Err
+returns-in-Err c = search places
