@@ -9,7 +9,7 @@ ghost use Rattle.c_masks.specs.Answers.{masks_in_c, MatrixInC, DistinctInC};
 use list_masks::Masks;
 use refusal::Refusal;
 
-// How many masks there are, and of how many words each.
+// How many masks there are, and of how many words each. No Result, since C reads it.
 #[repr(C)]
 #[derive(Clone, Copy)]
 pub struct CMasks {
@@ -20,24 +20,26 @@ pub struct CMasks {
     pub words: usize,
 }
 
-fn masks_in_c(answer: Result<Masks, Refusal>) -> CMasks
-    ensures { result ≡ masks_in_c (masking.said answer) }
-{
-    match answer {
-        Ok(found) => CMasks {
-            number: 0,
-            item: 0,
-            place: 0,
-            masks: found.masks,
-            words: found.words,
-        },
-        Err(no) => CMasks {
-            number: no.number,
-            item: no.item,
-            place: no.place,
-            masks: 0,
-            words: 0,
-        },
+impl From<Result<Masks, Refusal>> for CMasks {
+    ghost from_gives = { λ answer c. c ≡ masks_in_c (masking.said answer) };
+
+    fn from(answer: Result<Masks, Refusal>) -> CMasks {
+        match answer {
+            Ok(found) => CMasks {
+                number: 0,
+                item: 0,
+                place: 0,
+                masks: found.masks,
+                words: found.words,
+            },
+            Err(no) => CMasks {
+                number: no.number,
+                item: no.item,
+                place: no.place,
+                masks: 0,
+                words: 0,
+            },
+        }
     }
 }
 
@@ -51,7 +53,7 @@ pub extern "C" fn lexer_dfa_segment_mask_matrix(
     ensures { MatrixInC result (length segments.old) segments.new (length masks.old) masks.new
         (masking.parse_masks (length segments.old) (length masks.old) list.now) }
 {
-    masks_in_c(list_masks::segment_mask_matrix(list, segments, masks))
+    list_masks::segment_mask_matrix(list, segments, masks).into()
 }
 
 // The segments of a list, the mask of each, and the distinct ones of those that are not empty.
@@ -66,5 +68,5 @@ pub extern "C" fn lexer_dfa_distinct_masks(
         segments.new (length masks.old) masks.new (length distinct.old) distinct.new
         (masking.parse_distinct (length segments.old) (length masks.old) (length distinct.old) list.now) }
 {
-    masks_in_c(list_distinct::distinct_masks(list, segments, masks, distinct))
+    list_distinct::distinct_masks(list, segments, masks, distinct).into()
 }

@@ -11,7 +11,7 @@ ghost use Rattle.c_runs.specs.Answers.{run_in_c};
 use refusal::Refusal;
 use run_shape::AsciiRun;
 
-// A run's words: one, or three.
+// A run's words: one, or three. No Result, since C reads it.
 #[repr(C)]
 #[derive(Clone, Copy)]
 pub struct CRun {
@@ -24,31 +24,33 @@ pub struct CRun {
     pub third: u32,
 }
 
-fn words_in_c(read: Result<AsciiRun, Refusal>) -> CRun
-    ensures { result ≡ run_in_c read }
-{
-    match read {
-        Ok(run) => {
-            let words = run_words::write_serialized(run);
-            CRun {
-                number: 0,
-                item: 0,
-                place: 0,
-                length: words.length,
-                first: words.first,
-                second: words.second,
-                third: words.third,
+impl From<Result<AsciiRun, Refusal>> for CRun {
+    ghost from_gives = { λ read c. c ≡ run_in_c read };
+
+    fn from(read: Result<AsciiRun, Refusal>) -> CRun {
+        match read {
+            Ok(run) => {
+                let words = run_words::write_serialized(run);
+                CRun {
+                    number: 0,
+                    item: 0,
+                    place: 0,
+                    length: words.length,
+                    first: words.first,
+                    second: words.second,
+                    third: words.third,
+                }
             }
+            Err(refusal) => CRun {
+                number: refusal.number,
+                item: refusal.item,
+                place: refusal.place,
+                length: 0,
+                first: 0,
+                second: 0,
+                third: 0,
+            },
         }
-        Err(refusal) => CRun {
-            number: refusal.number,
-            item: refusal.item,
-            place: refusal.place,
-            length: 0,
-            first: 0,
-            second: 0,
-            third: 0,
-        },
     }
 }
 
@@ -57,7 +59,7 @@ fn words_in_c(read: Result<AsciiRun, Refusal>) -> CRun
 pub extern "C" fn lexer_dfa_classify(row: &[u16], state: u16) -> CRun
     ensures { result ≡ run_in_c (classified state row.now) }
 {
-    words_in_c(run_classify::classify(row, state))
+    run_classify::classify(row, state).into()
 }
 
 // The run that stands at a word.
@@ -65,7 +67,7 @@ pub extern "C" fn lexer_dfa_classify(row: &[u16], state: u16) -> CRun
 pub extern "C" fn lexer_dfa_read_run(words: &[u32], at: usize) -> CRun
     ensures { result ≡ run_in_c (read_at words.now at) }
 {
-    words_in_c(run_words::read_serialized(words, at))
+    run_words::read_serialized(words, at).into()
 }
 
 // The run of a state.
@@ -73,5 +75,5 @@ pub extern "C" fn lexer_dfa_read_run(words: &[u32], at: usize) -> CRun
 pub extern "C" fn lexer_dfa_ascii_run(room: &[u32], state: u16) -> CRun
     ensures { result ≡ run_in_c (scanning.ascii_run room.now state) }
 {
-    words_in_c(look_runs::ascii_run(room, state))
+    look_runs::ascii_run(room, state).into()
 }

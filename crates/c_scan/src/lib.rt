@@ -19,7 +19,7 @@ const NO_RUN: Refusal = Refusal {
 };
 
 // How far a run went, and whether an exit stopped it; `ran` is 0 where there is no run. The flags are whole words, 1 or 0, so that
-// a caller that loads a word finds one stored.
+// a caller that loads a word finds one stored. No Result, since C reads it.
 #[repr(C)]
 #[derive(Clone, Copy)]
 pub struct CScan {
@@ -31,39 +31,43 @@ pub struct CScan {
     pub found_exit: u32,
 }
 
-fn said_in_c(scanned: Option<AsciiRunScan>) -> CScan
-    ensures { result ≡ scan_in_c (said scanned) }
-{
-    match scanned {
-        None => CScan {
-            number: 0,
-            item: 0,
-            place: 0,
-            ran: 0,
-            bytes: 0,
-            found_exit: 0,
-        },
-        Some(scan) => CScan {
-            number: 0,
-            item: 0,
-            place: 0,
-            ran: 1,
-            bytes: scan.bytes,
-            found_exit: u32::from(scan.found_exit),
-        },
+impl From<Option<AsciiRunScan>> for CScan {
+    ghost from_gives = { λ scanned c. c ≡ scan_in_c (said scanned) };
+
+    fn from(scanned: Option<AsciiRunScan>) -> CScan {
+        match scanned {
+            None => CScan {
+                number: 0,
+                item: 0,
+                place: 0,
+                ran: 0,
+                bytes: 0,
+                found_exit: 0,
+            },
+            Some(scan) => CScan {
+                number: 0,
+                item: 0,
+                place: 0,
+                ran: 1,
+                bytes: scan.bytes,
+                found_exit: u32::from(scan.found_exit),
+            },
+        }
     }
 }
 
-fn refused_in_c(refusal: Refusal) -> CScan
-    ensures { result ≡ scan_in_c (no_by refusal) }
-{
-    CScan {
-        number: refusal.number,
-        item: refusal.item,
-        place: refusal.place,
-        ran: 0,
-        bytes: 0,
-        found_exit: 0,
+impl From<Refusal> for CScan {
+    ghost from_gives = { λ refusal c. c ≡ scan_in_c (no_by refusal) };
+
+    fn from(refusal: Refusal) -> CScan {
+        CScan {
+            number: refusal.number,
+            item: refusal.item,
+            place: refusal.place,
+            ran: 0,
+            bytes: 0,
+            found_exit: 0,
+        }
     }
 }
 
@@ -76,8 +80,8 @@ pub extern "C" fn lexer_dfa_scan(words: &[u32], input: &[u8]) -> CScan
 {
     match words {
         [word] => match run_words::short_answer(*word, 0) {
-            Ok(run) => said_in_c(run_scan::scan_length(run, input)),
-            Err(refusal) => refused_in_c(refusal),
+            Ok(run) => run_scan::scan_length(run, input).into(),
+            Err(refusal) => refusal.into(),
         },
         [kind, first, second] => {
             let packed = PackedRanges {
@@ -85,10 +89,10 @@ pub extern "C" fn lexer_dfa_scan(words: &[u32], input: &[u8]) -> CScan
                 second: *second,
             };
             match run_ranges::from_run(*kind, packed) {
-                Some(ranges) => said_in_c(run_scan::scan_length(AsciiRun::Ranges(ranges), input)),
-                None => refused_in_c(NO_RUN),
+                Some(ranges) => run_scan::scan_length(AsciiRun::Ranges(ranges), input).into(),
+                None => NO_RUN.into(),
             }
         }
-        _ => refused_in_c(NO_RUN),
+        _ => NO_RUN.into(),
     }
 }

@@ -8,6 +8,7 @@ ghost use Rattle.c_segments.specs.Answers.{segments_in_c};
 
 use refusal::Refusal;
 
+// How many segments a list has. No Result, since C reads it.
 #[repr(C)]
 #[derive(Clone, Copy)]
 pub struct CSegments {
@@ -17,22 +18,24 @@ pub struct CSegments {
     pub segments: usize,
 }
 
-fn segments_in_c(answer: Result<usize, Refusal>) -> CSegments
-    ensures { result ≡ segments_in_c (cutting.said answer) }
-{
-    match answer {
-        Ok(n) => CSegments {
-            number: 0,
-            item: 0,
-            place: 0,
-            segments: n,
-        },
-        Err(refused) => CSegments {
-            number: refused.number,
-            item: refused.item,
-            place: refused.place,
-            segments: 0,
-        },
+impl From<Result<usize, Refusal>> for CSegments {
+    ghost from_gives = { λ answer c. c ≡ segments_in_c (cutting.said answer) };
+
+    fn from(answer: Result<usize, Refusal>) -> CSegments {
+        match answer {
+            Ok(n) => CSegments {
+                number: 0,
+                item: 0,
+                place: 0,
+                segments: n,
+            },
+            Err(refused) => CSegments {
+                number: refused.number,
+                item: refused.item,
+                place: refused.place,
+                segments: 0,
+            },
+        }
     }
 }
 
@@ -42,5 +45,5 @@ pub extern "C" fn lexer_dfa_char_segments(list: &[u8], out: &mut [u32]) -> CSegm
     ensures { (result ≡ segments_in_c (cutting.counted (cutting.parse_for (length out.old) list.now)))
         × (out.new ≡ cutting.segments_in (length out.old) (cutting.parse_for (length out.old) list.now)) }
 {
-    segments_in_c(list_segments::char_segments(list, out))
+    list_segments::char_segments(list, out).into()
 }

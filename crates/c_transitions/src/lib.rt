@@ -10,7 +10,7 @@ ghost use Rattle.c_transitions.specs.Answers.{transitions_in_c};
 use list_transitions::Transitions;
 use refusal::Refusal;
 
-// How many transitions a list has, and how many intervals they have together.
+// How many transitions a list has, and how many intervals they have together. No Result, since C reads it.
 #[repr(C)]
 #[derive(Clone, Copy)]
 pub struct CTransitions {
@@ -21,24 +21,26 @@ pub struct CTransitions {
     pub intervals: usize,
 }
 
-fn transitions_in_c(answer: Result<Transitions, Refusal>) -> CTransitions
-    ensures { result ≡ transitions_in_c (reading.said answer) }
-{
-    match answer {
-        Ok(read) => CTransitions {
-            number: 0,
-            item: 0,
-            place: 0,
-            transitions: read.count,
-            intervals: read.intervals,
-        },
-        Err(refusal) => CTransitions {
-            number: refusal.number,
-            item: refusal.item,
-            place: refusal.place,
-            transitions: 0,
-            intervals: 0,
-        },
+impl From<Result<Transitions, Refusal>> for CTransitions {
+    ghost from_gives = { λ answer c. c ≡ transitions_in_c (reading.said answer) };
+
+    fn from(answer: Result<Transitions, Refusal>) -> CTransitions {
+        match answer {
+            Ok(read) => CTransitions {
+                number: 0,
+                item: 0,
+                place: 0,
+                transitions: read.count,
+                intervals: read.intervals,
+            },
+            Err(refusal) => CTransitions {
+                number: refusal.number,
+                item: refusal.item,
+                place: refusal.place,
+                transitions: 0,
+                intervals: 0,
+            },
+        }
     }
 }
 
@@ -47,7 +49,7 @@ fn transitions_in_c(answer: Result<Transitions, Refusal>) -> CTransitions
 pub extern "C" fn lexer_dfa_read_transitions(list: &[u8]) -> CTransitions
     ensures { result ≡ transitions_in_c (reading.counted (reading.parse list.now)) }
 {
-    transitions_in_c(list_transitions::read_transitions(list))
+    list_transitions::read_transitions(list).into()
 }
 
 // Both ends of every interval, the low and the high + 1.
@@ -56,5 +58,5 @@ pub extern "C" fn lexer_dfa_read_intervals(list: &[u8], out: &mut [u32]) -> CTra
     ensures { (result ≡ transitions_in_c (reading.counted (ending.parse_into (length out.old) list.now)))
         × (out.new ≡ ending.ends_in (length out.old) (ending.parse_into (length out.old) list.now)) }
 {
-    transitions_in_c(list_transitions::read_intervals(list, out))
+    list_transitions::read_intervals(list, out).into()
 }
