@@ -22,7 +22,7 @@ pub extern "C" fn lexer_dfa_accept(room: &[u32], state: u16) -> CValue
     c_value::value_in_c(look_accepts::accept(room, state))
 }
 
-// An accept without its actions; `found` is 0 where there is none of that number.
+// An accept without its actions; `found` is 0 where there is none of that number. No Result, since C reads it.
 #[repr(C)]
 #[derive(Clone, Copy)]
 pub struct CAccept {

@@ -7,7 +7,7 @@ ghost use Rattle.run_class.specs.Byte.{byte_class, byte_number};
 ghost use Rattle.run_class.specs.Class.{class_said};
 ghost use Rattle.c_class.specs.Answers.{class_in_c};
 
-// The class of ranges: 0 whitespace, 1 number, 2 identifier, 3 other.
+// The class of ranges: 0 whitespace, 1 number, 2 identifier, 3 other, as `run_class` has them in order. No Result, since C reads it.
 #[repr(C)]
 #[derive(Clone, Copy)]
 pub struct CClass {
@@ -17,7 +17,7 @@ pub struct CClass {
     pub class: u32,
 }
 
-// The class of a byte: 0 digit, 1 hex letter, 2 other letter, 3 whitespace, 4 underscore, 5 quote, 6 dollar, 7 other.
+// The class of a byte: 0 digit, 1 hex letter, 2 other letter, 3 whitespace, 4 underscore, 5 quote, 6 dollar, 7 other, in `run_class`'s order too.
 #[unsafe(no_mangle)]
 pub extern "C" fn lexer_dfa_class_of_byte(byte: u8) -> u32
     ensures { result ≡ byte_number (byte_class byte) }

@@ -30,7 +30,7 @@ pub extern "C" fn lexer_dfa_eof_continuation(room: &[u32], state: u16) -> CValue
     c_value::value_in_c(look_continuations::eof_continuation(room, state))
 }
 
-// How many contexts and configs a continuation has; `found` is 0 where there is none of that number.
+// How many contexts and configs a continuation has; `found` is 0 where there is none of that number. No Result, since C reads it.
 #[repr(C)]
 #[derive(Clone, Copy)]
 pub struct CContinuation {

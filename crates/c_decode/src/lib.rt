@@ -9,7 +9,7 @@ ghost use Rattle.c_decode.specs.Answers.{decoded_in_c};
 use refusal::Refusal;
 use room_decode::Decoded;
 
-// A table by the number of its modes, states and words.
+// A table by the number of its modes, states and words. No Result, since C reads it.
 #[repr(C)]
 #[derive(Clone, Copy)]
 pub struct CDecoded {

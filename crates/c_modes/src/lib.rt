@@ -11,6 +11,7 @@ use c_value::CValue;
 use refusal::NONE;
 use room_find::Missing;
 
+// A function and no `From`: neither type is this crate's. So is `start_in_c`.
 fn compiled_in_c(compiled: Result<bool, Missing>) -> CValue
     ensures { result ≡ value_in_c (moding.compiled_said compiled) }
 {

@@ -7,7 +7,7 @@ ghost use Rattle.run_shape.specs.Scan.{scanned_by};
 ghost use Rattle.look_runs.specs.StateRun.{ascii_run};
 ghost use Rattle.c_state_scan.specs.Answers.{state_scan_in_c};
 
-// How far a state's run went, in two registers: `stop` is 0 where there is no run, 1 where the input ended and 2 where an exit was found.
+// How far a state's run went, in two registers: `stop` is 0 where there is no run, 1 where the input ended and 2 where an exit was found. No Result, since C reads it.
 #[repr(C)]
 #[derive(Clone, Copy)]
 pub struct CStateScan {

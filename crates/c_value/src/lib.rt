@@ -10,7 +10,7 @@ ghost use Rattle.c_value.specs.Written.{written_in_c};
 use refusal::{NOT_TABLE, Refusal, STATE};
 use room_find::Missing;
 
-// What a lookup answers, in one register with the value in its low half. A lookup's refusal has place 0, which is left out.
+// What a lookup answers, in one register with the value in its low half. A lookup's refusal has place 0, which is left out. No Result, since C reads it.
 #[repr(C)]
 #[derive(Clone, Copy)]
 pub struct CValue {
@@ -35,7 +35,7 @@ pub fn value_in_c(answer: Result<u32, Missing>) -> CValue
     }
 }
 
-// How many numbers were written. A number of 0 says accepted; else it is document 01's refusal, with its place and item, and the length is 0.
+// How many numbers were written. A number of 0 says accepted; else it is document 01's refusal, with its place and item, and the length is 0. No Result, since C reads it.
 #[repr(C)]
 #[derive(Clone, Copy)]
 pub struct CWritten {

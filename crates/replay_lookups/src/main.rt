@@ -88,7 +88,8 @@ fn replay_table(sample: &[u8], counts: &mut [Counts]) -> usize {
     }
 }
 
-// Of an input that fills the buffer there may be more: it is no sample, and nothing is printed.
+// Of an input that fills the buffer there may be more: it is no sample, and nothing is printed. (Each program has its own: of one that reads and prints for all of
+// them no contract could say what it does, and no public function goes without one.)
 fn main(rt: HostRuntime) -> Result<()> {
     let mut sample = io::large_buffer();
     let bytes = input::read_full(&mut rt.stdin(), &mut sample)?;

@@ -23,11 +23,12 @@ use std::io::{Result, Stdout};
 // At most 2,730 ranges stand in the rows of a state, of at most 55 bytes each with the break of their line.
 pub(crate) type Page = program_io::Page<163840>;
 
-fn table_page(modes: u32, states: u32, words: usize, page: &mut Page)
-    ensures { take page.new.at page.new.bytes ≡ take (length page.old.bytes) (table_text modes states words) }
+// (A page has a function of its own: its promise is the text of its part, and one that takes a closure would promise it no more plainly.)
+fn table_page(table: Decoded, page: &mut Page)
+    ensures { take page.new.at page.new.bytes ≡ take (length page.old.bytes) (table_text table.modes table.states table.words) }
 {
     page.clear();
-    page::put_table(modes, states, words, page);
+    page::put_table(table, page);
 }
 
 fn mode_page(room: &[u32], mode: u32, page: &mut Page)
@@ -44,11 +45,11 @@ fn state_page(room: &[u32], state: u16, page: &mut Page)
     page::put_state(room, state, page);
 }
 
-fn refusal_page(number: u32, place: usize, page: &mut Page)
-    ensures { take page.new.at page.new.bytes ≡ take (length page.old.bytes) (refusal_text number place) }
+fn refusal_page(refusal: Refusal, page: &mut Page)
+    ensures { take page.new.at page.new.bytes ≡ take (length page.old.bytes) (refusal_text refusal.number refusal.place) }
 {
     page.clear();
-    page::put_refusal(number, place, page);
+    page::put_refusal(refusal, page);
 }
 
 fn show_modes(out: Stdout, room: &[u32], modes: u32, page: &mut Page) -> Result<()> {
@@ -74,22 +75,15 @@ fn all_of(states: u32) -> u16
     states.min(65535) as u16
 }
 
-fn show_table(
-    out: Stdout,
-    room: &[u32],
-    modes: u32,
-    states: u32,
-    words: usize,
-    page: &mut Page,
-) -> Result<()> {
-    table_page(modes, states, words, page);
+fn show_table(out: Stdout, room: &[u32], table: Decoded, page: &mut Page) -> Result<()> {
+    table_page(table, page);
     out.write_all(page.written())?;
-    show_modes(out, room, modes, page)?;
-    show_states(out, room, all_of(states), page)
+    show_modes(out, room, table.modes, page)?;
+    show_states(out, room, all_of(table.states), page)
 }
 
-fn show_refusal(out: Stdout, number: u32, place: usize, page: &mut Page) -> Result<()> {
-    refusal_page(number, place, page);
+fn show_refusal(out: Stdout, refusal: Refusal, page: &mut Page) -> Result<()> {
+    refusal_page(refusal, page);
     out.write_all(page.written())
 }
 
@@ -97,14 +91,8 @@ fn show_refusal(out: Stdout, number: u32, place: usize, page: &mut Page) -> Resu
 fn show(out: Stdout, room: &[u32], decoded: std::result::Result<Decoded, Refusal>) -> Result<()> {
     let mut page = Page::new();
     match decoded {
-        Ok(
-            Decoded {
-                modes,
-                states,
-                words,
-            },
-        ) => show_table(out, room, modes, states, words, &mut page),
-        Err(refusal) => show_refusal(out, refusal.number, refusal.place, &mut page),
+        Ok(table) => show_table(out, room, table, &mut page),
+        Err(refusal) => show_refusal(out, refusal, &mut page),
     }
 }
 

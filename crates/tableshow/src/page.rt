@@ -17,7 +17,8 @@ use crate::rows::{DEAD, ESCAPE, number_or, place_of, put_ascii, put_escapes, put
 use crate::text::put_form;
 use crate::{Page, forms};
 use look_accepts::AcceptRecord;
-use refusal::{NONE, RUNS_START};
+use refusal::{NONE, RUNS_START, Refusal};
+use room_decode::Decoded;
 use room_find::Missing;
 use rule_words::word_at;
 
@@ -110,6 +111,8 @@ fn ranges_form(count: u32) -> usize
     forms::ON_4
 }
 
+// A run by its first word, whose lowest byte is its kind. (The word, and no `AsciiRun`: a room may hold any words, and of those that are no run it says
+// what stands there.)
 fn run_form(run: u32) -> usize
     ensures { (b c : ℕ) → formed result run b c ≡ run_text run b c }
 {
@@ -226,14 +229,14 @@ pub(crate) fn put_mode(room: &[u32], mode: u32, page: &mut Page)
 }
 
 // The line of the table.
-pub(crate) fn put_table(modes: u32, states: u32, words: usize, page: &mut Page)
-    ensures { Wrote (table_text modes states words) page.old page.new }
+pub(crate) fn put_table(table: Decoded, page: &mut Page)
+    ensures { Wrote (table_text table.modes table.states table.words) page.old page.new }
 {
     put_form(
         forms::TABLE,
-        modes as u64,
-        states as u64,
-        words as u64,
+        table.modes as u64,
+        table.states as u64,
+        table.words as u64,
         page,
     )
 }
@@ -255,24 +258,30 @@ fn rule_form(rule: usize) -> usize
     }
 }
 
-fn reason_form(number: u32, place: usize) -> usize
-    ensures { formed result 0 0 0 ≡ reason_text number place }
+fn reason_form(refusal: Refusal) -> usize
+    ensures { formed result 0 0 0 ≡ reason_text refusal.number refusal.place }
 {
-    match number {
+    match refusal.number {
         1 => forms::SHORT,
         2 => forms::TAG,
         3 => forms::FIELD,
         4 => forms::LIMIT,
         5 => forms::LEFT,
-        6 => rule_form(place),
+        6 => rule_form(refusal.place),
         _ => forms::OTHER,
     }
 }
 
 // The line of a refusal.
-pub(crate) fn put_refusal(number: u32, place: usize, page: &mut Page)
-    ensures { Wrote (refusal_text number place) page.old page.new }
+pub(crate) fn put_refusal(refusal: Refusal, page: &mut Page)
+    ensures { Wrote (refusal_text refusal.number refusal.place) page.old page.new }
 {
-    put_form(forms::REFUSED, number as u64, place as u64, 0, page);
-    put_form(reason_form(number, place), 0, 0, 0, page)
+    put_form(
+        forms::REFUSED,
+        refusal.number as u64,
+        refusal.place as u64,
+        0,
+        page,
+    );
+    put_form(reason_form(refusal), 0, 0, 0, page)
 }
