@@ -3,7 +3,7 @@
 use Prim.Native.Nat.{ℕ, zero, suc, ◌+◌, ◌*◌, ◌-◌, ◌/◌, ◌%◌, ◌^◌, ◌≤◌, ◌<◌}
 use native.Mathlib.Nat.{suc-mul, zero-mul, zero-div}
 use native.Mathlib.Omega.{arith}
-use mathlib.Core.Path.{◌≡◌, refl, sym, ap, ap₂, ◌∙◌}
+use mathlib.Core.Path.{◌≡◌, refl, sym, ap, ◌∙◌}
 use mathlib.Core.Bool.{Bool, true, false, ◌&&◌}
 use mathlib.Core.List.{List, [], ◌∷◌, ◌++◌, append_assoc}
 use lib.Dec.{leb, ltb}
@@ -20,11 +20,11 @@ use Rattle.list_transitions.specs.Transition.{Transition, points}
 use Rattle.list_transitions.proofs.Accepted.{AllInOrder}
 use Rattle.list_transitions.proofs.Order.{le_cases}
 use Rattle.list_segments.specs.Segments.{Asc, cuts_of, starts, starts_from, segments, segments_from}
-use Rattle.list_masks.specs.Masks.{bit, words_for, mask_of, masks_at, matrix, flat, distinct, distinct_of}
+use Rattle.list_masks.specs.Masks.{bit, words_for, mask_of, masks_at, matrix, flat, distinct_of}
 use Rattle.list_masks.proofs.Packs.{length_mask, Wide, wide_masks, length-flat}
 use Rattle.list_masks.proofs.Keeps.{wide_distinct}
 use Rattle.law_rows.specs.Row.{Row, numbers}
-use Rattle.law_rows.specs.Demand.{held_by, mask_bit, segment_mask_from, segment_mask_over, segment_mask}
+use Rattle.law_rows.specs.Demand.{held_by, mask_bit, segment_mask_from, segment_mask_over}
 use Rattle.law_rows.proofs.Built.{asc_cuts}
 use Rattle.law_rows.proofs.Looks.{mask_exact}
 use Rattle.law_rows.proofs.Flips.{segment_mask_lem}

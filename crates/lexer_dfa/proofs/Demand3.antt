@@ -6,7 +6,6 @@ use native.Mathlib.Omega.{arith}
 use mathlib.Core.Path.{◌≡◌, refl, sym, ap, ap₂, subst, ◌∙◌}
 use mathlib.Core.Bool.{true}
 use mathlib.Core.List.{List, [], ◌∷◌, ◌++◌}
-use lib.Dec.{ltb}
 use lib.ListN.{length, get_or, take}
 use lib.Seq.{get_or-take}
 use Rattle.std.specs.Borrow.{Bor, MutBor}
@@ -18,14 +17,14 @@ use Rattle.law_tables.specs.Table.{Table}
 use Rattle.law_tables.proofs.Codec.{At}
 use Rattle.law_lookups.specs.Looks as table
 use Rattle.law_lookups.specs.Looks.{goal_at, state_of, of_state}
-use Rattle.list_transitions.specs.Transition.{Transition, points, Complement}
+use Rattle.list_transitions.specs.Transition.{Transition, Complement}
 use Rattle.list_transitions.specs.Read.{Parsed, parsed, refused, parse, is_parsed, accepted}
 use Rattle.list_transitions.proofs.Accepted.{listed}
 use Rattle.list_transitions.proofs.Order.{le_cases}
 use Rattle.list_segments.specs.Segments.{cuts_of, starts, segments}
 use Rattle.list_segments.specs.Answer.{parse_for, segments_in}
 use Rattle.list_masks.specs.declared.Masks.{Masks}
-use Rattle.list_masks.specs.Masks.{bit, words_for, flat, matrix, distinct_of}
+use Rattle.list_masks.specs.Masks.{words_for, flat, matrix, distinct_of}
 use Rattle.list_masks.specs.Answer as masks
 use Rattle.list_masks.specs.Answer.{parse_masks, parse_distinct, masks_in, Matrix, Distinct}
 use Rattle.list_masks.proofs.Packs.{length_masks}

@@ -10,7 +10,7 @@ use Rattle.run_ranges.specs.Ranges.{joined, ranges_from, up_to_four, in_ranges}
 use Rattle.run_class.specs.Byte.{up_from}
 use Rattle.run_shape.specs.Shape.{held}
 use Rattle.run_shape.specs.Classify.{exits_from, by_ranges, by_exits, classified}
-use Rattle.run_shape.specs.Scan.{stops, scan_of, scan_said}
+use Rattle.run_shape.specs.Scan.{stops, scan_of}
 use Rattle.run_shape.specs.Words.{or_field, short_run, read_at}
 use Rattle.word_reader.specs.Parse.{and_then, word, fields, block, many, section, both}
 use Rattle.word_reader.specs.Records.{any, target, start}

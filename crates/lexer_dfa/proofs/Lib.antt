@@ -24,3 +24,4 @@ pub mod SheetCalled
 pub mod Parts
 pub mod CoveredExactly
 pub mod TableDecoded
+pub mod SaidOne

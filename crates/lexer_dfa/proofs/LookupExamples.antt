@@ -9,7 +9,7 @@ use Rattle.refusal.specs.Fixed.{NONE, tag, ESCAPE-STATE, DEAD-STATE}
 use Rattle.refusal.specs.Lists.{some, every, before}
 use Rattle.run_shape.specs.Shape.{held}
 use Rattle.run_shape.specs.Words.{or_field, short_run, read_at}
-use Rattle.run_shape.specs.Scan.{stops, scan_of, scan_said, scanned_by}
+use Rattle.run_shape.specs.Scan.{stops, scan_of, scanned_by}
 use Rattle.room_find.specs.Room.{record_in, listed_in, past_lists, listed_at, state_at, follow}
 use Rattle.look_row.specs.Search.{found, searched, given}
 use Rattle.look_modes.specs.Start.{mode_at, mode_start}

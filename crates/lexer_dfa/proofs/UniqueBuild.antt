@@ -14,7 +14,7 @@ use Rattle.row_goals.proofs.unseen.Reads as unseen
 use Rattle.row_goals.proofs.seen_low.Reads as Seen-low
 use Rattle.row_build.proofs.build_rows.Reads as build-rows
 use Rattle.row_build.proofs.Building.{said_one}
-use Rattle.law_unique.specs.Unique.{Determines, DeterminesBoth, DeterminesAll}
+use Rattle.law_unique.specs.Unique.{Determines, DeterminesAll}
 
 and : {x y : List ℕ} {l m : List (List ℕ)} → x ≡ y → l ≡ m → x ∷ l ≡ y ∷ m
 and a b = ap₂ {C = List (List ℕ)} (λ x l. x ∷ l) a b

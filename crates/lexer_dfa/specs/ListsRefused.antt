@@ -23,7 +23,7 @@ use Rattle.law_rows.specs.Row.{numbers}
 use Rattle.law_rows.specs.Build.{wide_of, escape_of}
 use Rattle.row_build.specs.Answer.{Lent, lent}
 use Rattle.lexer_dfa.specs.Demand3.{RowArgs}
-use Rattle.std.specs.Prelude.{Result, Ok}
+use Rattle.std.specs.Prelude.{Result}
 
 -- The bytes of a list
 
