@@ -4,7 +4,7 @@
     changed.py
 
 It reads functions and definitions by contracts.py of the toolchain (/opt/rattle/port), types and theorems by the patterns below: a theorem is a
-`pub` law of proofs/ that README.md or docs/ (docs/PORT.md and this page aside) name.
+`pub` law of proofs/ that README.md or docs/ (docs/PORT.md and this page aside) name, then or now.
 """
 import glob
 import io
@@ -48,9 +48,9 @@ def types(root):
     return found
 
 
-def named():
-    """Every name of two words or more that README.md and docs/ say."""
-    pages = [p for p in glob.glob(os.path.join(TOP, "docs/*.md")) + [os.path.join(TOP, "README.md")] if os.path.basename(p) not in ("PORT.md", "DESIGN-PASS.md")]
+def named(root):
+    """Every name of two words or more that README.md and docs/ of a tree say."""
+    pages = [p for p in glob.glob(os.path.join(root, "docs/*.md")) + [os.path.join(root, "README.md")] if os.path.basename(p) not in ("PORT.md", "DESIGN-PASS.md")]
     said = " ".join(code for p in pages for line in open(p) for code in re.findall(r"`([^`]+)`", line))
     return {name for name in re.findall(r"[\w'-]+", said) if re.search(r"[_-]", name)}
 
@@ -100,7 +100,7 @@ def main():
     tar = subprocess.run(["git", "archive", began], cwd=TOP, capture_output=True, check=True).stdout
     with tempfile.TemporaryDirectory() as old:
         tarfile.open(fileobj=io.BytesIO(tar)).extractall(old, filter="data")
-        names = named()
+        names = named(old) | named(TOP)
         beside("Public functions, their clauses with them", public(old), public(TOP), spell)
         beside("Public types", types(old), types(TOP))
         beside("Definitions of specs/", definitions(old), definitions(TOP))

@@ -60,6 +60,17 @@ reach_in : (n y l r : ℕ) → r ≡ reached n y l → n + y ≤ l → r ≡ n +
 unfolding reached
 reach_in n y l r e h = omega arith
 
+reach_within : (n y l r : ℕ) → r ≡ reached n y l → n ≤ l → r ≤ l
+unfolding reached
+reach_within n y l r e h = omega arith
+
+-- what is written within a page stays within it
+pub shown_within : {xs : List ℕ} {n : ℕ} {old : List ℕ} {r : ℕ} {new : List ℕ} → n ≤ length old → Shown xs n old r new → r ≤ length new
+shown_within {xs} {n} {old} {r} h p = omega (arith, reach_within n (length xs) (length old) r p.next h, ap length p.is, lay-length n xs old)
+
+-- what a method of a page is left with
+pub ruleset paging = (rules, shown_within)
+
 reach_none : (n l : ℕ) → n ≡ reached n 0 l
 unfolding reached
 reach_none n l = omega arith

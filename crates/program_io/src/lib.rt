@@ -40,6 +40,37 @@ pub fn read_table(bytes: &[u8], room: &mut [u32]) -> Result<Decoded, Refusal>
     room_decode::decode(&words[..n], room)
 }
 
+// Bytes, texts and numbers on a page that is lent. Each function writes from place `n` of the page on, cuts off what does not fit, and answers the place
+// behind what it wrote.
+pub fn put_byte(byte: u8, page: &mut [u8], n: usize) -> usize
+    ensures { Shown (byte ∷ []) n page.old result page.new }
+{
+    if n < page.len() {
+        page[n] = byte;
+        return n + 1;
+    }
+    n
+}
+
+pub fn put_text(text: &[u8], page: &mut [u8], n: usize) -> usize
+    ensures { Shown text.now n page.old result page.new }
+{
+    let mut m = n;
+    for byte in text {
+        m = put_byte(*byte, page, m);
+    }
+    m
+}
+
+// A number in decimal.
+pub fn put_number(x: u64, page: &mut [u8], n: usize) -> usize
+    ensures { Shown (number x) n page.old result page.new }
+{
+    let mut digits = [0u8; 20];
+    let k = io::decimal(x, &mut digits);
+    put_text(&digits[..k], page, n)
+}
+
 // A page of N bytes that is written from its front on; what does not fit is cut off. Behind what was written stands `at`.
 #[derive(Drop)]
 pub struct Page<const N: usize> {
@@ -77,26 +108,19 @@ impl<const N: usize> Page<N> {
     pub fn put_byte(&mut self, byte: u8)
         ensures { Shown (byte ∷ []) self.old.at self.old.bytes self.new.at self.new.bytes }
     {
-        if self.at < N {
-            self.bytes[self.at] = byte;
-            self.at += 1;
-        }
+        self.at = put_byte(byte, &mut self.bytes, self.at);
     }
 
     pub fn put_text(&mut self, text: &[u8])
         ensures { Shown text.now self.old.at self.old.bytes self.new.at self.new.bytes }
     {
-        for byte in text {
-            self.put_byte(*byte);
-        }
+        self.at = put_text(text, &mut self.bytes, self.at);
     }
 
     // A number in decimal.
     pub fn put_number(&mut self, x: u64)
         ensures { Shown (number x) self.old.at self.old.bytes self.new.at self.new.bytes }
     {
-        let mut digits = [0u8; 20];
-        let k = io::decimal(x, &mut digits);
-        self.put_text(&digits[..k]);
+        self.at = put_number(x, &mut self.bytes, self.at);
     }
 }

@@ -1,9 +1,5 @@
--- A byte is stored where the page has a place for it.
-use Rattle.program_io.proofs.Shows.{bytes}
+use Rattle.program_io.proofs.Shows.{paging}
 use Rattle.program_io.proofs.Page.put_byte.Goals as goal
 
-pub returns-then-self : goal.returns-then-self
-returns-then-self g c = search bytes
-
-pub returns-else-self : goal.returns-else-self
-returns-else-self g c = search bytes
+pub invariant_of-self : goal.invariant_of-self
+invariant_of-self g c = search paging

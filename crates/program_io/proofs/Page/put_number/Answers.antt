@@ -1,6 +1,5 @@
--- The digits that are put are those of the number.
-use Rattle.program_io.proofs.Shows.{numbers}
+use Rattle.program_io.proofs.Shows.{paging}
 use Rattle.program_io.proofs.Page.put_number.Goals as goal
 
-pub returns : goal.returns
-returns g c = search numbers
+pub invariant_of-self : goal.invariant_of-self
+invariant_of-self g c = search paging

@@ -1,8 +1,5 @@
-use Rattle.program_io.proofs.Shows.{texts}
+use Rattle.program_io.proofs.Shows.{paging}
 use Rattle.program_io.proofs.Page.put_text.Goals as goal
 
-pub loop-byte-preserved : goal.loop-byte-preserved
-loop-byte-preserved g c = search texts
-
-pub returns : goal.returns
-returns g c = search texts
+pub invariant_of-self : goal.invariant_of-self
+invariant_of-self g c = search paging
