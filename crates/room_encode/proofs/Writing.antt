@@ -74,6 +74,12 @@ module _ (a n i : ℕ) (xs : List ℕ) (h : i < length xs) (r : Rising a (drop i
   pub next_rises : Rising (get_or xs i 0) (drop (i + 1) xs) n
   next_rises = opened.1
 
+  pub next_start : a ≤ n
+  next_start = omega (arith, next_order, next_within)
+
+-- where the next section starts and ends
+pub ruleset following = (rules, next_order, next_within, next_start)
+
 pub at_last : (a n i : ℕ) (xs : List ℕ) → length xs ≤ i → Rising a (drop i xs) n → a ≡ n
 unfolding Rising
 at_last a n i xs h r = rw (drop_of_length-le xs h) at r

@@ -6,7 +6,7 @@ use Rattle.refusal.specs.Lists.{pick}
 use Rattle.buffer.specs.Written.{refused}
 use Rattle.buffer.specs.Over.{zeros, padded}
 use Rattle.room_judge.specs.Judge.{words_part, is_table}
-use Rattle.std.specs.Prelude.{Result, Ok, Err}
+use Rattle.std.specs.Prelude.{Result, Ok}
 use Rattle.refusal.specs.declared.Refusal.{Refusal}
 
 -- a room d is encoded into n numbers

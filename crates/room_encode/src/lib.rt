@@ -19,6 +19,7 @@ fn write_section(section: &[u32], out: &mut [u32])
 }
 
 // Writes the tag and the eight sections, each into its own part of the output: each starts where the one before it ends.
+#[tactic(auto, using(crate::proofs::Writing::following))]
 fn write_sections(words: &[u32], s: Sections, out: &mut [u32])
     requires found { layout_of words.now ≡ Ok s }
     requires fits { length words.now ≤ length out.old }

@@ -6,55 +6,6 @@ use Rattle.room_encode.proofs.write_sections.Goals as goal
 pub loop-end-init : goal.loop-end-init
 loop-end-init c = (ends_rise _ c.requires.found, part_start c.args.words.now _)
 
-pub offset_bounds-words-at : goal.offset_bounds-words-at
-offset_bounds-words-at c =
-    let xs = ends c.args.words.now c.args.s in
-    let o = next_order _ _ _ xs c.loop-end-test.true c.loop-end.invariant.0 in
-    let p = next_within _ _ _ xs c.loop-end-test.true c.loop-end.invariant.0 in
-    omega arith
-
-pub slice_bounds-write_section-count : goal.slice_bounds-write_section-count
-slice_bounds-write_section-count c =
-    let xs = ends c.args.words.now c.args.s in
-    let o = next_order _ _ _ xs c.loop-end-test.true c.loop-end.invariant.0 in
-    let p = next_within _ _ _ xs c.loop-end-test.true c.loop-end.invariant.0 in
-    omega arith
-
-pub slice_bounds-write_section-start : goal.slice_bounds-write_section-start
-slice_bounds-write_section-start c =
-    let xs = ends c.args.words.now c.args.s in
-    let o = next_order _ _ _ xs c.loop-end-test.true c.loop-end.invariant.0 in
-    let p = next_within _ _ _ xs c.loop-end-test.true c.loop-end.invariant.0 in
-    omega arith
-
-pub slice_bounds-write_section-end : goal.slice_bounds-write_section-end
-slice_bounds-write_section-end c =
-    let xs = ends c.args.words.now c.args.s in
-    let o = next_order _ _ _ xs c.loop-end-test.true c.loop-end.invariant.0 in
-    let p = next_within _ _ _ xs c.loop-end-test.true c.loop-end.invariant.0 in
-    omega arith
-
-pub offset_bounds-out-at : goal.offset_bounds-out-at
-offset_bounds-out-at c =
-    let xs = ends c.args.words.now c.args.s in
-    let o = next_order _ _ _ xs c.loop-end-test.true c.loop-end.invariant.0 in
-    let p = next_within _ _ _ xs c.loop-end-test.true c.loop-end.invariant.0 in
-    omega arith
-
-pub slice_bounds-write_section-count-in-loop-end : goal.slice_bounds-write_section-count-in-loop-end
-slice_bounds-write_section-count-in-loop-end c =
-    let xs = ends c.args.words.now c.args.s in
-    let o = next_order _ _ _ xs c.loop-end-test.true c.loop-end.invariant.0 in
-    let p = next_within _ _ _ xs c.loop-end-test.true c.loop-end.invariant.0 in
-    omega arith
-
-pub slice_bounds-write_section-start-in-loop-end : goal.slice_bounds-write_section-start-in-loop-end
-slice_bounds-write_section-start-in-loop-end c =
-    let xs = ends c.args.words.now c.args.s in
-    let o = next_order _ _ _ xs c.loop-end-test.true c.loop-end.invariant.0 in
-    let p = next_within _ _ _ xs c.loop-end-test.true c.loop-end.invariant.0 in
-    omega arith
-
 pub loop-end-preserved : goal.loop-end-preserved
 loop-end-preserved c =
     let xs = ends c.args.words.now c.args.s in
