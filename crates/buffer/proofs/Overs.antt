@@ -1,15 +1,14 @@
 -- The laws of writing a list over a part of another. Assumes nothing.
 use mathlib.Core.Path.{◌≡◌, refl, sym, ap, ◌∙◌}
 use mathlib.Core.List.{List, [], ◌∷◌, ◌++◌, append-nil, append_assoc}
-use Prim.Native.Nat.{ℕ, zero, suc, ◌+◌, ◌-◌, ◌<◌, ◌≤◌}
+use Prim.Native.Nat.{ℕ, zero, suc, ◌+◌, ◌-◌, ◌<◌, ◌≤◌, min}
 use native.Mathlib.Nat.{not-suc-le-zero, le_of_suc-le-suc, add-zero}
 use native.Mathlib.Numerals.{add-one}
 use native.Mathlib.Omega.{arith}
 use borrow.Author.Rules.{rules}
-use borrow.Author.Fill.{fill_more}
 use borrow.Rule.Slice.PartMut.{mid_of, post_of, put_mid, same_len_mid}
 use lib.ListN.{length, get_or, take, drop, set, replicate, length-append, length-take, length-drop, length-set, length-replicate, replicate-append-replicate}
-use lib.Seq.{drop-length, drop-drop, set-get_or, length-take-le}
+use lib.Seq.{drop-length, drop-drop, length-take-le}
 use lib.Bits.{bit_or, or_add_and, and_le_l, and_le_r}
 use Rattle.buffer.specs.Over.{over, lay, zeros, padded}
 
@@ -29,6 +28,50 @@ unfolding over
 over-front [] d h = refl
 over-front (x ∷ xs) [] h = absurd (not-suc-le-zero h)
 over-front (x ∷ xs) (y ∷ d) h = ap (λ (l : List ℕ). x ∷ l) (over-front xs d (le_of_suc-le-suc h))
+
+-- The loop that copies, numbers of any width: those of xs before n are written over d
+
+module _ {X : Type 0} where
+  -- over all of as many
+  pub over_all : (xs d : List X) → length xs ≡ length d → over xs d ≡ xs
+  unfolding over
+  over_all [] [] h = refl
+  over_all [] (y ∷ d) h = absurd (omega arith)
+  over_all (x ∷ xs) [] h = absurd (omega arith)
+  over_all (x ∷ xs) (y ∷ d) h = ap (λ (l : List X). x ∷ l) (over_all xs d (omega arith))
+
+  -- a part of k numbers from n on, over which as many were written
+  pub copied : (n k : ℕ) (xs d : List X) {e : List X} → length xs ≡ k → n + k ≤ length d → e ≡ over xs (mid_of n k d) → e ≡ xs
+  copied n k xs d l h i = let m : length (mid_of n k d) ≡ k = length-take-le k (drop n d) (omega (arith, length-drop n d)) in i ∙ over_all xs (mid_of n k d) (omega arith)
+
+  over_put : (n : ℕ) (xs d : List X) {x : X} → n < length xs → n < length d → x ≡ get_or xs n x → set (over (take n xs) d) n x ≡ over (take (suc n) xs) d
+  unfolding over
+  over_put n [] d h k e = absurd (not-suc-le-zero h)
+  over_put n (y ∷ xs) [] h k e = absurd (not-suc-le-zero k)
+  over_put zero (y ∷ xs) (z ∷ d) h k e = ap (λ (x : X). x ∷ d) e
+  over_put (suc n) (y ∷ xs) (z ∷ d) h k e = ap (λ (l : List X). y ∷ l) (over_put n xs d (le_of_suc-le-suc h) (le_of_suc-le-suc k) e)
+
+  pub copy_start : (d : List X) → d ≡ over [] d
+  unfolding over
+  copy_start d = refl
+
+  pub copy_turn : (n : ℕ) (xs d : List X) {x : X} {l : List X} → l ≡ over (take n xs) d → x ≡ get_or xs n x → n < min (length xs) (length d) →
+      set l n x ≡ over (take (n + 1) xs) d
+  copy_turn n xs d {x} i e h = rw (add-one n) (ap (λ (l : List X). set l n x) i ∙ over_put n xs d (omega arith) (omega arith) e)
+
+  over_rest : (n : ℕ) (xs d : List X) → min (length xs) (length d) ≤ n → over (take n xs) d ≡ over xs d
+  unfolding over
+  over_rest zero [] d h = refl
+  over_rest zero (x ∷ xs) [] h = refl
+  over_rest zero (x ∷ xs) (y ∷ d) h = absurd (omega arith)
+  over_rest (suc n) [] d h = refl
+  over_rest (suc n) (x ∷ xs) [] h = refl
+  over_rest (suc n) (x ∷ xs) (y ∷ d) h = ap (λ (l : List X). x ∷ l) (over_rest n xs d (omega arith))
+
+  pub copy_done : (n : ℕ) (xs d : List X) {l : List X} → l ≡ over (take n xs) d → min (length xs) (length d) ≤ n → l ≡ over xs d
+  copy_done n xs d i h = i ∙ over_rest n xs d h
+
+pub ruleset copying = (rules, copy_start, copy_turn)
 
 -- nothing laid changes nothing
 pub lay-none : (n : ℕ) (d : List ℕ) → lay n [] d ≡ d
@@ -117,3 +160,7 @@ module _ {X : Type 0} (z : X) where
 
   pub part_length : (n k : ℕ) (l : List X) {e : List X} → e ≡ replicate (length (mid_of n k l)) z → length (put_mid n k l e) ≡ length l
   part_length n k l {e} f = same_len_mid n k l e (ap length f ∙ length-replicate (length (mid_of n k l)) z)
+
+-- where the bits of both are 0, both are
+pub or_zero : (a b : ℕ) → bit_or a b ≡ 0 → (a ≡ 0) × (b ≡ 0)
+or_zero a b h = (omega (arith, or_add_and a b, and_le_r a b, h), omega (arith, or_add_and a b, and_le_l a b, h))

@@ -1,8 +1,8 @@
 -- Writing into a lent buffer: a list written over a part of another, which keeps its length.
 use Rattle.std.specs.Prelude.{ℕ, ◌+◌, ◌-◌, ◌≡◌, List, [], ◌∷◌, ◌++◌, length, take, drop, replicate}
 
--- xs over the front of d
-unfoldable pub over : List ℕ → List ℕ → List ℕ
+-- xs over the front of d, numbers of any width
+unfoldable pub over : {X : Type 0} → List X → List X → List X
 over [] d = d
 over (x ∷ xs) [] = []
 over (x ∷ xs) (y ∷ d) = x ∷ over xs d

@@ -1,8 +1,9 @@
 // Lent buffers made zero, whatever numbers they have: targets of 16 bits, numbers of 32, and the words of masks, of 64. In specs/ what it is to write a
 // list over a part of another, and what a call says that writes into a buffer; in proofs/ the law of every loop that does.
-#![tactic(auto)]
+#![tactic(auto, using(crate::proofs::Overs::or_zero))]
 
 ghost use Rattle.std.specs.Prelude.{◌≡◌, IsTrue, length, replicate};
+ghost use Rattle.buffer.specs.Over.{over};
 
 // A number that a buffer has.
 pub trait Number: Copy {
@@ -12,7 +13,11 @@ pub trait Number: Copy {
         ensures { result ≡ zero };
 
     fn is_zero(self) -> bool
-        ensures { IsTrue result → self ≡ zero };
+        ensures { (IsTrue result → self ≡ zero) × (self ≡ zero → IsTrue result) };
+
+    // The bits of both, so zero only where both are.
+    fn joined(self, other: Self) -> Self
+        ensures { result ≡ zero → (self ≡ zero) × (other ≡ zero) };
 }
 
 impl Number for u16 {
@@ -24,6 +29,10 @@ impl Number for u16 {
 
     fn is_zero(self) -> bool {
         self == 0
+    }
+
+    fn joined(self, other: u16) -> u16 {
+        self | other
     }
 }
 
@@ -37,6 +46,10 @@ impl Number for u32 {
     fn is_zero(self) -> bool {
         self == 0
     }
+
+    fn joined(self, other: u32) -> u32 {
+        self | other
+    }
 }
 
 impl Number for u64 {
@@ -49,6 +62,10 @@ impl Number for u64 {
     fn is_zero(self) -> bool {
         self == 0
     }
+
+    fn joined(self, other: u64) -> u64 {
+        self | other
+    }
 }
 
 // How many numbers are read at a time, and written where they are not all 0.
@@ -57,15 +74,15 @@ pub const BLOCK: usize = 256;
 // Up to so many numbers stay in the nearest cache, where to write costs less than to read.
 const CACHED: usize = 4096;
 
-// Whether every number is 0. The loop has no other way out: it reads several at once.
+// Whether every number is 0, by the bits of all together. The loop has no other way out and asks nothing: it reads several at once.
 fn is_clear<T: Number>(block: &[T]) -> bool
     ensures { IsTrue result → block.now ≡ replicate (length block.now) T.zero }
 {
-    let mut clear = true;
+    let mut all = T::zero();
     for number in block {
-        clear &= number.is_zero();
+        all = all.joined(*number);
     }
-    clear
+    all.is_zero()
 }
 
 fn write_zeros<T: Number>(numbers: &mut [T])
@@ -104,5 +121,15 @@ pub fn clear<T: Number>(numbers: &mut [T])
         clear_blocks(numbers);
     } else {
         write_zeros(numbers);
+    }
+}
+
+// Writes numbers over the front of others, as far as both go. By a loop, since `copy_from_slice` calls memmove, and an archive for C is to need no
+// such name from outside.
+pub fn copy<T: Number>(from: &[T], to: &mut [T])
+    ensures { to.new ≡ over from.now to.old }
+{
+    for i in 0..from.len().min(to.len()) {
+        to[i] = from[i];
     }
 }

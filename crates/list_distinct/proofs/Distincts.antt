@@ -9,14 +9,13 @@ use native.Mathlib.Omega.{arith}
 use borrow.Author.Rules.{rules}
 use borrow.Author.Tests.{lt-ltb, le-ltb, eq-eqb, ne_eqb}
 use lib.Dec.{eqb}
-use lib.Pointwise.{pointwise}
-use borrow.Rule.Slice.PartMut.{put_mid}
-use lib.ListN.{length, get_or, take, drop, set, length-append, length-drop}
-use lib.Seq.{take-add, take_at, drop_at, drop-drop, length-take-le}
+use borrow.Rule.Slice.PartMut.{mid_of, put_mid}
+use lib.ListN.{length, get_or, take, drop, set, length-append, length-drop, drop_of_length-le}
+use lib.Seq.{take-add, take_at, drop_at, drop-drop, drop-cons, length-take-le}
 use Rattle.refusal.specs.Lists.{pick, same_list, first_equal}
 use Rattle.refusal.specs.Fixed.{NONE}
 use Rattle.buffer.specs.Over.{over, lay, Put}
-use Rattle.buffer.proofs.Overs.{over-front, lay-length, lay-none, lay-lay}
+use Rattle.buffer.proofs.Overs.{over-front, copied, lay-length, lay-none, lay-lay}
 use Rattle.buffer.proofs.Going.{Going, going_start, going_place, going_put, going_done}
 use Rattle.std.specs.Prelude.{Option, position}
 use Rattle.std.specs.Option.{unwrap_or}
@@ -87,12 +86,28 @@ module _ (p left words : ℕ) {size : ℕ} (n : 0 < left) (h : p + left * words 
   pub one_there : p + words ≤ size
   one_there = omega (arith, one_more_lem)
 
-same_is : (xs ys : List ℕ) → pointwise eqb xs ys ≡ same_list xs ys
-unfolding same_list
-same_is [] [] = refl
-same_is [] (y ∷ ys) = refl
-same_is (x ∷ xs) [] = refl
-same_is (x ∷ xs) (y ∷ ys) = ap (λ (t : Bool). eqb x y && t) (same_is xs ys)
+-- Two masks that are compared word by word: those from i on are the same where all are
+
+module _ (xs ys : List ℕ) (l : length xs ≡ length ys) (i : ℕ) {all : Bool} (e : same_list (drop i xs) (drop i ys) ≡ all) where
+  rest_of : (zs : List ℕ) → i < length zs → drop i zs ≡ get_or zs i 0 ∷ drop (i + 1) zs
+  rest_of zs h = let one : suc i ≡ i + 1 = omega arith in drop-cons zs i 0 h ∙ ap (λ (k : ℕ). get_or zs i 0 ∷ drop k zs) one
+
+  pub same_not : i < length xs → (get_or xs i 0 ≡ get_or ys i 0 → ⊥) → false ≡ all
+  unfolding same_list
+  same_not h d = rw (rest_of xs h, rest_of ys (omega arith), ne_eqb (get_or xs i 0) (get_or ys i 0) d) at e
+
+  pub same_turn : i < length xs → get_or xs i 0 ≡ get_or ys i 0 → same_list (drop (i + 1) xs) (drop (i + 1) ys) ≡ all
+  unfolding same_list
+  same_turn h d = rw (rest_of xs h, rest_of ys (omega arith), eq-eqb (get_or xs i 0) (get_or ys i 0) d) at e
+
+  pub same_done : length xs ≤ i → true ≡ all
+  unfolding same_list
+  same_done h =
+      let a : drop i xs ≡ [] = drop_of_length-le xs h in
+      let b : drop i ys ≡ [] = drop_of_length-le ys (omega arith) in
+      rw (a, b) at e
+
+pub ruleset comparing = (rules, same_not, same_turn, same_done)
 
 pub one_more_words : (i words : ℕ) → (i + 1) * words ≡ i * words + words
 one_more_words i words = let e : i + 1 ≡ suc i = omega arith in ap (λ (k : ℕ). k * words) e ∙ omega (arith, suc-mul i words)
@@ -117,9 +132,9 @@ module _ (known m : List ℕ) (d : ℕ) where
       rw (e, z) (find_start known m d size)
 
   module _ (i : ℕ) {all : ℕ} (e : i + index (chunks (d - i) size (drop (i * size) known)) m ≡ all) where
-    module _ (n : i < d) {b : Bool} (f : b ≡ pointwise eqb (take (i * size + size - i * size) (drop (i * size) known)) m) where
+    module _ (n : i < d) {b : Bool} (f : b ≡ same_list (take (i * size + size - i * size) (drop (i * size) known)) m) where
       is_same : b ≡ same_list (take size (drop (i * size) known)) m
-      is_same = let k : i * size + size - i * size ≡ size = omega arith in rw k at (f ∙ same_is _ m)
+      is_same = let k : i * size + size - i * size ≡ size = omega arith in rw k at f
 
       pub loop_hit : b ≡ true → i ≡ all
       loop_hit h = find_hit known m (d - i) size (i * size) i e (omega arith) is_same h
@@ -187,13 +202,14 @@ module _ (d words : ℕ) (out m : List ℕ) (h : d * words + words ≤ length ou
         }
 
 -- a slice copied over a part
-pub put_slice : (m out : List ℕ) (at : ℕ) {new : List ℕ} → at + length m ≤ length out → new ≡ m →
+pub put_slice : (m out : List ℕ) (at : ℕ) {new : List ℕ} → at + length m ≤ length out → new ≡ over m (mid_of at (at + length m - at) out) →
     Put m at out (at + length m) (put_mid at (at + length m - at) out new)
 unfolding lay
-put_slice m out at h e =
+put_slice m out at {new} h e =
     let k : at + length m - at ≡ length m = omega arith in
     let fits : length m ≤ length (drop at out) = omega (arith, length-drop at out) in
-    record { next = refl; is = rw (k, e) (ap (λ (l : List ℕ). take at out ++ l) (sym (over-front m (drop at out) fits))) }
+    let c : new ≡ m = copied at (at + length m - at) m out (sym k) (omega arith) e in
+    record { next = refl; is = rw (k, c) (ap (λ (l : List ℕ). take at out ++ l) (sym (over-front m (drop at out) fits))) }
 
 pub ruleset adding = (rules, add_room, add_empty, add_there, add_new_lem, put_slice)
 

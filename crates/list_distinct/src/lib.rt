@@ -2,7 +2,7 @@
 #![tactic(auto)]
 
 ghost use Rattle.std.specs.Prelude.{◌≡◌, [], ◌∷◌, ◌||◌, ◌+◌, ◌*◌, ◌≤◌, ◌<◌, eqb, ltb, length, take, drop, position};
-ghost use Rattle.refusal.specs.Lists.{pick};
+ghost use Rattle.refusal.specs.Lists.{pick, same_list};
 ghost use Rattle.buffer.specs.Over.{Put};
 ghost use Rattle.list_masks.specs.Masks.{is_zero, index};
 ghost use Rattle.list_masks.specs.Answer.{parse_masks, parse_distinct, Distinct};
@@ -36,7 +36,21 @@ fn find_word(known: &[u64], x: u64) -> Option<usize>
     known.iter().position(|word| *word == x)
 }
 
-// The place of a mask among the first d of the known ones, or d. Masks of one word, the most common ones, need no comparison of slices.
+// Are two masks of as many words the same? By a loop: `==` asks the first word alone and goes on by eights, and of masks of many transitions the
+// first word is mostly 0 in both (docs/LOOK-BACK.md).
+fn same(one: &[u64], other: &[u64]) -> bool
+    requires { length one.now ≡ length other.now }
+    ensures { result ≡ same_list one.now other.now }
+{
+    for i in 0..one.len() {
+        if one[i] != other[i] {
+            return false;
+        }
+    }
+    true
+}
+
+// The place of a mask among the first d of the known ones, or d. Masks of one word, the most common ones, need no loop over words.
 fn find_mask(known: &[u64], d: usize, mask: &[u64]) -> usize
     requires { d * length mask.now ≤ length known.now }
     ensures { result ≡ index (chunks d (length mask.now) known.now) mask.now }
@@ -47,7 +61,7 @@ fn find_mask(known: &[u64], d: usize, mask: &[u64]) -> usize
     }
     for i in 0..d {
         let at = i * words;
-        if &known[at..at + words] == mask {
+        if same(&known[at..at + words], mask) {
             return i;
         }
     }
@@ -68,7 +82,7 @@ fn add_mask(mask: &[u64], out: &mut [u64], d: usize) -> u32
         return i as u32;
     }
     let at = d * mask.len();
-    out[at..at + mask.len()].copy_from_slice(mask);
+    buffer::copy(mask, &mut out[at..at + mask.len()]);
     d as u32
 }
 

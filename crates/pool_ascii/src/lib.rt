@@ -34,7 +34,7 @@ fn append_row(pool: &mut [u16], rows: usize, row: &[u16]) -> Result<usize, Refus
     if pool.len() - at < 128 {
         return refuse(ROOM);
     }
-    pool[at..at + 128].copy_from_slice(row);
+    buffer::copy(row, &mut pool[at..at + 128]);
     Ok(rows)
 }
 

@@ -5,15 +5,16 @@ use native.Mathlib.Omega.{arith}
 use mathlib.Core.Path.{◌≡◌, refl, sym, ap, ap₂, ◌∙◌}
 use mathlib.Core.Bool.{Bool, true, false}
 use mathlib.Core.List.{List, ◌∷◌}
-use lib.ListN.{length, get_or, set}
+use lib.ListN.{length, get_or, set, length-set}
 use borrow.Author.Rules.{rules}
 use borrow.Author.Tests.{lt-ltb, le-ltb, le-leb, lt-leb, eq-eqb, ne_eqb}
 use Rattle.refusal.specs.Lists.{pick, first_equal}
 use Rattle.std.proofs.lemmas.Option.{none-some}
 use Rattle.refusal.specs.Said.{Said, ok, no_by, no, FIELD, ROOM, NOT-TABLE}
 use Rattle.refusal.specs.Fixed.{NONE}
-use borrow.Rule.Slice.PartMut.{put_mid}
-use Rattle.buffer.specs.Over.{lay}
+use borrow.Rule.Slice.PartMut.{mid_of, put_mid}
+use Rattle.buffer.specs.Over.{over, lay}
+use Rattle.buffer.proofs.Overs.{copied}
 use Rattle.std.specs.Prelude.{ltb, Option, Some, None, Result, Ok, Err}
 use Rattle.refusal.specs.declared.Refusal.{Refusal}
 use Rattle.pool_rows.specs.Pools.{Kind, ascii, wide, standing, rows_from, after_rows, in_threes, good, countable, Outcome, found}
@@ -102,9 +103,10 @@ module _ (w : List ℕ) (n : ℕ) where
         Interns r w w (append ascii w n row)
     ascii_room h l t e = append-room ascii w n row (ascii_end w n) (omega arith) e
 
-    pub ascii_put : {m : ℕ} {xs : List ℕ} → n * 128 ≤ length w → length row ≡ 128 → 128 ≤ length w - n * 128 → m ≡ 128 → xs ≡ row →
+    pub ascii_put : {m : ℕ} {xs : List ℕ} → n * 128 ≤ length w → length row ≡ 128 → 128 ≤ length w - n * 128 → m ≡ 128 → xs ≡ over row (mid_of (n * 128) m w) →
         Interns (Ok n) w (put_mid (n * 128) m w xs) (append ascii w n row)
-    ascii_put {m} {xs} h l t e c =
+    ascii_put {m} {xs} h l t e o =
+        let c : xs ≡ row = copied (n * 128) m row w (omega arith) (omega arith) o in
         append_put ascii w n row (ascii_end w n) (omega arith)
         (laid-part (n * 128) m w xs (omega (arith, ap length c)) (omega arith) ∙ ap (λ (ys : List ℕ). lay (n * 128) ys w) c)
 
@@ -129,9 +131,10 @@ module _ (w : List ℕ) (n : ℕ) (row : List ℕ) where
     pub wide_room : {r : Result ℕ Refusal} → end ≤ length w → length w - end ≤ length row → said r ≡ no ROOM 0 → Interns r w w (append wide w n row)
     wide_room h t e = append-room wide w n row b (omega arith) e
 
-    pub wide_put : {x m : ℕ} {xs : List ℕ} → x ≡ length row / 3 → end ≤ length w → length row < length w - end → m ≡ length row → xs ≡ row →
+    pub wide_put : {x m : ℕ} {xs : List ℕ} → x ≡ length row / 3 → end ≤ length w → length row < length w - end → m ≡ length row → xs ≡ over row (mid_of (end + 1) m (set w end x)) →
         Interns (Ok n) w (put_mid (end + 1) m (set w end x) xs) (append wide w n row)
-    wide_put {x} {m} {xs} q h t e c =
+    wide_put {x} {m} {xs} q h t e o =
+        let c : xs ≡ row = copied (end + 1) m row (set w end x) (sym e) (omega (arith, length-set w end x)) o in
         append_put wide w n row b (omega arith)
         (stored-part end m x w xs (e ∙ sym (ap length c)) (omega arith) ∙ ap₂ (λ (y : ℕ) (ys : List ℕ). lay end (y ∷ ys) w) q c)
 

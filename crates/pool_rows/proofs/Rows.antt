@@ -2,18 +2,16 @@
 -- that is judged or laid into the pool. Assumes nothing.
 use Prim.Native.Nat.{ℕ, zero, suc, ◌+◌, ◌*◌, ◌-◌, ◌/◌, ◌%◌, ◌<◌, ◌≤◌, min}
 use native.Mathlib.Omega.{arith}
-use mathlib.Core.Path.{◌≡◌, refl, sym, ap, ap₂, ◌∙◌}
+use mathlib.Core.Path.{◌≡◌, refl, sym, ap, ◌∙◌}
 use mathlib.Core.Bool.{Bool, true, false, ◌&&◌, false≢true, and-eq-true_iff}
 use mathlib.Core.List.{List, [], ◌∷◌, ◌++◌}
 use lib.Dec.{eqb, leb}
 use lib.ListN.{length, get_or, take, drop, set, length-append, length-drop, length-set}
 use lib.Seq.{drop-cons}
 use borrow.Author.Rules.{rules}
-use borrow.Author.Tests.{eq-eqb, ne_eqb, eqb-true, eqb-false, le-leb, lt-leb}
+use borrow.Author.Tests.{eqb-true, le-leb, lt-leb}
 use borrow.Rule.Slice.PartMut.{put_mid}
 use Rattle.std.proofs.Common.{nat_eq, slice_range}
-use Rattle.std.specs.List.{starts_with}
-use Rattle.std.proofs.lemmas.Slice.{between_to_end}
 use Rattle.std.specs.Cmp.Lexicographic.{pointwise}
 use Rattle.refusal.specs.Lists.{same_list, first_equal}
 use Rattle.buffer.specs.Over.{lay}
@@ -21,13 +19,6 @@ use Rattle.buffer.proofs.Overs.{over-front, lay_put}
 use Rattle.pool_rows.specs.Pools.{Kind, ascii, wide, size_at, rows_from, after_rows, in_threes}
 
 -- Two rows that `==` compares
-
--- two pairs of numbers that are equal together
-eqb_same : (a b c d : ℕ) → (a ≡ b → c ≡ d) → (c ≡ d → a ≡ b) → eqb a b ≡ eqb c d
-eqb_same a b c d f g = cases (eqb a b) refl where
-  cases : (t : Bool) → eqb a b ≡ t → t ≡ eqb c d
-  cases true e = sym (eq-eqb c d (f (eqb-true a b e)))
-  cases false e = sym (ne_eqb c d (λ q. eqb-false a b e (g q)))
 
 equal_is : (xs ys : List ℕ) → pointwise nat_eq xs ys ≡ same_list xs ys
 unfolding same_list
@@ -43,14 +34,7 @@ part_equal w row at n {e} q h =
     let m : e - at ≡ n = omega arith in
     q ∙ equal_is (slice_range w at e) row ∙ ap (λ (k : ℕ). same_list (take k (drop at w)) row) m
 
--- A wide row is compared by its count first, and `starts_with` compares the ranges behind it
-
-begins_is : (xs ys : List ℕ) → pointwise nat_eq ys xs ≡ same_list xs ys
-unfolding same_list
-begins_is [] [] = refl
-begins_is [] (y ∷ ys) = refl
-begins_is (x ∷ xs) [] = refl
-begins_is (x ∷ xs) (y ∷ ys) = ap₂ ◌&&◌ (eqb_same y x x y sym sym) (begins_is xs ys)
+-- A wide row is compared by its count first, and then the ranges behind it
 
 module _ (w : List ℕ) (at x : ℕ) (row : List ℕ) (h : at + size_at wide w at ≤ length w) where
   wide_split : same_list (take (size_at wide w at) (drop at w)) (x ∷ row) ≡ (eqb (get_or w at 0) x && same_list (take (get_or w at 0 * 3) (drop (at + 1) w)) row)
@@ -63,16 +47,17 @@ module _ (w : List ℕ) (at x : ℕ) (row : List ℕ) (h : at + size_at wide w a
   pub wide_differ : eqb (get_or w at 0) x ≡ false → eqb (get_or w at 0) x ≡ same_list (take (size_at wide w at) (drop at w)) (x ∷ row)
   wide_differ n = n ∙ sym (wide_split ∙ rw n)
 
-  pub wide_same : {t : Bool} → eqb (get_or w at 0) x ≡ true → length row ≡ x * 3 → t ≡ starts_with nat_eq (slice_range w (at + 1) (length w)) row →
+  pub wide_same : {t : Bool} → eqb (get_or w at 0) x ≡ true → length row ≡ x * 3 → t ≡ pointwise nat_eq (slice_range w (at + 1) (at + 1 + length row)) row →
       t ≡ same_list (take (size_at wide w at) (drop at w)) (x ∷ row)
   wide_same e l f =
       let q : get_or w at 0 ≡ x = eqb-true (get_or w at 0) x e in
-      let n : length row ≡ get_or w at 0 * 3 = omega arith in
-      let o : length w ≤ length w = omega arith in
-      f ∙ begins_is (take (length row) (slice_range w (at + 1) (length w))) row
-      ∙ ap₂ (λ (m : ℕ) (ys : List ℕ). same_list (take m ys) row) n (between_to_end w (at + 1) (length w) o) ∙ sym (wide_split ∙ rw e)
+      part_equal w row (at + 1) (get_or w at 0 * 3) f (omega arith) ∙ sym (wide_split ∙ rw e)
 
-pub ruleset comparing-wide = (rules, wide_differ, wide_same)
+  -- the ranges are in the pool
+  pub wide_rest : eqb (get_or w at 0) x ≡ true → length row ≡ x * 3 → at + 1 + length row ≤ length w
+  wide_rest e l = let q : get_or w at 0 ≡ x = eqb-true (get_or w at 0) x e in omega arith
+
+pub ruleset comparing-wide = (rules, wide_differ, wide_same, wide_rest)
 
 -- The rows that are left behind the first i, once for both kinds
 

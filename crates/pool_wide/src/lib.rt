@@ -31,13 +31,14 @@ fn rows_end(pool: &[u32], rows: usize) -> usize
     at
 }
 
-// Is the wide row at a place of the pool this one, of `count` ranges?
+// Is the wide row at a place of the pool this one, of `count` ranges? By `==`, which asks the first number alone before it goes on by eights:
+// `starts_with` compares sixteen first, and most rows differ in one of the first.
 fn same_at(pool: &[u32], at: usize, count: u32, row: &[u32]) -> bool
     requires within { at + size_at wide pool.now at ≤ length pool.now }
     requires size { length row.now ≡ count * 3 }
     ensures { result ≡ same_list (take (size_at wide pool.now at) (drop at pool.now)) (count ∷ row.now) }
 {
-    pool[at] == count && pool[at + 1..].starts_with(row)
+    pool[at] == count && &pool[at + 1..at + 1 + row.len()] == row
 }
 
 // The number of the first equal row.
@@ -86,7 +87,7 @@ fn append_row(
         return refuse(ROOM);
     }
     pool[end] = count;
-    pool[end + 1..end + 1 + row.len()].copy_from_slice(row);
+    buffer::copy(row, &mut pool[end + 1..end + 1 + row.len()]);
     Ok(rows)
 }
 

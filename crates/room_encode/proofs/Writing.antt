@@ -7,7 +7,7 @@ use mathlib.Core.List.{List, [], ◌∷◌, ◌++◌, append-nil}
 use borrow.Author.Rules.{rules}
 use borrow.Author.Tests.{lt-ltb, le-ltb}
 use borrow.Rule.Slice.PartMut.{mid_of, put_mid}
-use lib.ListN.{length, get_or, take, drop, length-take, length-drop, drop_of_length-le, length-replicate}
+use lib.ListN.{length, get_or, take, drop, set, length-take, length-drop, drop_of_length-le, length-replicate}
 use lib.Seq.{drop-cons, drop-drop, take_all, take-add, take-length, length-take-le}
 use Rattle.refusal.specs.declared.Refusal.{Refusal}
 use Rattle.refusal.specs.Said.{NOT-TABLE, ROOM}
@@ -17,16 +17,28 @@ use Rattle.std.specs.Prelude.{Ok, Err}
 use Rattle.word_layout.proofs.Found.{order, continuations_there}
 use Rattle.buffer.specs.Written.{refused}
 use Rattle.buffer.specs.Over.{over, lay, zeros, padded}
-use Rattle.buffer.proofs.Overs.{over-front, lay-none, lay-lay, lay-zeros}
+use Rattle.buffer.proofs.Overs.{lay-none, lay_put, lay-lay, lay-zeros}
 use Rattle.word_layout.proofs.Laws.{kept}
 use Rattle.room_judge.specs.Judge.{words_part, table_in}
 use Rattle.room_judge.proofs.Tables.{table_laid, found_table, unfound_table}
 use Rattle.room_encode.specs.Encode.{encode_of, out_of}
 use Rattle.std.specs.Prelude.{Result}
 
--- a section was copied over the front of its part
-pub copied_over : (w d : List ℕ) {new : List ℕ} → length w ≤ length d → new ≡ w → new ++ drop (length w) d ≡ over w d
-copied_over w d h e = rw e (sym (over-front w d h))
+-- The loop that copies a section: what is left of it, laid from here, gives what all of it gives
+
+module _ (w : List ℕ) where
+  pub copy_holds : (d : List ℕ) → lay 0 (drop 0 w) d ≡ over w d
+  unfolding lay
+  copy_holds d = refl
+
+  pub copy_turn : {i : ℕ} (out old : List ℕ) {x : ℕ} {all : List ℕ} → lay i (drop i w) out ≡ all → i < length w → length out ≡ length old → length w ≤ length old
+      → x ≡ get_or w i 0 → lay (i + 1) (drop (i + 1) w) (set out i x) ≡ all
+  copy_turn {i} out old e h k l g = rw g (lay_put i _ _ out (omega arith) ∙ (rw add-one (rw (← drop-cons w i 0 h) e)))
+
+  pub copy_done : {i : ℕ} (out : List ℕ) {all : List ℕ} → length w ≤ i → lay i (drop i w) out ≡ all → out ≡ all
+  copy_done {i} out h e = sym (lay-none i out) ∙ (rw (drop_of_length-le w h) at e)
+
+pub ruleset copying = (rules, copy_holds, copy_turn, copy_done)
 
 -- what was written over the part from a on, said of the whole
 pub lent : (a : ℕ) (xs d : List ℕ) {e : List ℕ} → a ≤ length d → e ≡ over xs (mid_of a (length d - a) d) → put_mid a (length d - a) d e ≡ lay a xs d

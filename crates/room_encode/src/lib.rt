@@ -15,7 +15,9 @@ fn write_section(section: &[u32], out: &mut [u32])
     requires { length section.now ≤ length out.old }
     ensures { out.new ≡ over section.now out.old }
 {
-    out[..section.len()].copy_from_slice(section);
+    for (i, x) in section.iter().enumerate() {
+        out[i] = *x;
+    }
 }
 
 // Writes the tag and the eight sections, each into its own part of the output: each starts where the one before it ends.

@@ -5,7 +5,7 @@ use native.Mathlib.Omega.{arith}
 use mathlib.Core.Path.{◌≡◌, refl, sym, ◌∙◌}
 use mathlib.Core.List.{List, [], ◌∷◌, ◌++◌}
 use borrow.Author.Rules.{rules}
-use borrow.Rule.Slice.PartMut.{put_mid}
+use borrow.Rule.Slice.PartMut.{mid_of, put_mid}
 use lib.ListN.{length, get_or, drop, set, length-set, length-drop, drop_of_length-le}
 use lib.Seq.{drop-cons}
 use Rattle.std.specs.Prelude.{map, Ok, Err}
@@ -16,19 +16,20 @@ use Rattle.word_reader.specs.Parse.{Place}
 use Rattle.word_sections.specs.declared.Kind.{Kind}
 use Rattle.word_sections.specs.Kinds.{record_at}
 use Rattle.word_sections.proofs.Laws.{record_in_lem}
-use Rattle.buffer.specs.Over.{lay, Put}
-use Rattle.buffer.proofs.Overs.{over-front}
+use Rattle.buffer.specs.Over.{over, lay, Put}
+use Rattle.buffer.proofs.Overs.{over-front, copied}
 use Rattle.buffer.proofs.Going.{Going, going_start, going_done, going_room, going_turn, going_place, going_put, put_one}
 use Rattle.room_fill.specs.Room.{starts, starts_from, renewed, in_room, shifted, placed}
 
 -- Words that are copied
 
-pub copied_put : (w : List ℕ) (n : ℕ) (d : List ℕ) {new : List ℕ} → n + length w ≤ length d → new ≡ w
+pub copied_put : (w : List ℕ) (n : ℕ) (d : List ℕ) {new : List ℕ} → n + length w ≤ length d → new ≡ over w (mid_of n (n + length w - n) d)
     → Put w n d (n + length w) (put_mid n (n + length w - n) d new)
 unfolding lay
 copied_put w n d {new} h e =
     let k : n + length w - n ≡ length w = omega arith in
-    record { next = refl; is = rw (e, k, over-front w (drop n d) (omega (arith, length-drop n d))) }
+    let c : new ≡ w = copied n (n + length w - n) w d (sym k) (omega arith) e in
+    record { next = refl; is = rw (c, k, over-front w (drop n d) (omega (arith, length-drop n d))) }
 
 -- A list of numbers that f gives, stored one by one
 

@@ -91,7 +91,7 @@ pub(crate) fn copy_words(words: &[u32], room: &mut [u32], n: usize) -> usize
     ensures { Put words.now n room.old result room.new }
 {
     let behind = n + words.len();
-    room[n..behind].copy_from_slice(words);
+    buffer::copy(words, &mut room[n..behind]);
     behind
 }
 

@@ -11,4 +11,4 @@ returns-then-i-d c = search adding
 pub returns : goal.returns
 returns c =
     add_new_lem c.args.d _ _ _ c.requires.room c.is_zero.ensures c.if-is_zero.false c.find_mask-i.ensures c.if-i-d.false
-    (put_slice _ _ _ c.requires.room c.copy_from_slice.ensures.after)
+    (put_slice _ _ _ c.requires.room c.copy.ensures)

@@ -8,11 +8,11 @@ returns-then-words-eq1 c = find_one c.args.known.now _ _ c.requires c.if-words-e
 pub loop-i-init : goal.loop-i-init
 loop-i-init c = loop_start _ _ _
 
-pub returns-then-eq : goal.returns-then-eq
-returns-then-eq c = loop_hit _ _ _ _ c.loop-i.invariant c.loop-i-test.true c.eq.ensures c.if-eq.true
+pub returns-then-same : goal.returns-then-same
+returns-then-same c = loop_hit _ _ _ _ c.loop-i.invariant c.loop-i-test.true c.same.ensures c.if-same.true
 
 pub loop-i-preserved : goal.loop-i-preserved
-loop-i-preserved c = loop_turn _ _ _ _ c.loop-i.invariant c.loop-i-test.true c.eq.ensures c.if-eq.false
+loop-i-preserved c = loop_turn _ _ _ _ c.loop-i.invariant c.loop-i-test.true c.same.ensures c.if-same.false
 
 pub returns : goal.returns
 returns c = loop_done _ _ _ c.loop-i.i c.loop-i.invariant c.loop-i.auto.i-end c.loop-i-test.false

@@ -7,4 +7,4 @@ pub returns-then-pool-at-lt128 : goal.returns-then-pool-at-lt128
 returns-then-pool-at-lt128 c = search appending-ascii
 
 pub returns : goal.returns
-returns c = ascii_put _ _ _ c.requires.within c.requires.size (omega arith) (omega arith) c.copy_from_slice.ensures.after
+returns c = ascii_put _ _ _ c.requires.within c.requires.size (omega arith) (omega arith) c.copy.ensures

@@ -7,4 +7,4 @@ pub returns-then-pool-end : goal.returns-then-pool-end
 returns-then-pool-end c = search appending-wide
 
 pub returns : goal.returns
-returns c = wide_put _ _ _ c.requires.ends c.requires.counts c.requires.within (omega arith) (omega arith) c.copy_from_slice.ensures.after
+returns c = wide_put _ _ _ c.requires.ends c.requires.counts c.requires.within (omega arith) (omega arith) c.copy.ensures
