@@ -142,7 +142,7 @@ fn atom_span(x: u64, q: u64) -> Span
     }
 }
 
-// The span of the key q for a rec. A good hint, how many of its pairs end before q, saves the way.
+// The span of the key q for a record. A good hint, how many of its pairs end before q, saves the way.
 fn find_span(rec: Record, q: u64, hint: usize) -> Span
     requires { q ≤ last }
     ensures { Covers (transition_of rec.entry) rec.entry.tag q result.floor result.low result.high }

@@ -1,5 +1,5 @@
 -- The laws of the loops over the pairs of a set that judge their order and count their intervals. w is the list's bytes. Assumes nothing.
-use mathlib.Core.Path.{◌≡◌, refl, ◌∙◌}
+use mathlib.Core.Path.{◌≡◌, refl, sym, ap, ◌∙◌}
 use mathlib.Core.List.{List, [], ◌∷◌}
 use mathlib.Core.Bool.{Bool, true, false}
 use Prim.Native.Nat.{ℕ, suc, ◌+◌, ◌*◌, ◌-◌, ◌/◌, ◌<◌, ◌≤◌, max, min}
@@ -10,8 +10,6 @@ use borrow.Author.Rules.{rules}
 use borrow.Author.Tests.{le-leb, lt-leb, lt-ltb, le-ltb, eq-eqb, ne_eqb}
 use lib.ListN.{length}
 use lib.Dec.{ltb}
-use mir.Val.{bool_byte}
-use Rattle.std.specs.Prelude.{Option, Some, None, is_some}
 use Rattle.refusal.specs.Lists.{pick}
 use Rattle.list_transitions.specs.Transition.{Pair, origin, points, beyond, orderly}
 use Rattle.list_transitions.specs.Intervals.{Span, clip, clipped, clips, gaps}
@@ -40,9 +38,19 @@ module _ (a b : ℕ) {x y z : ℕ} (f : x ≡ a - origin) (g : y ≡ b - origin)
 
 pub ruleset cuts = (rules, cut_some, cut-none)
 
-pub live : (o : Option (ℕ × ℕ)) {ss : List Span} {t : Bool} {r : ℕ} → ss ≡ spans_of o → t ≡ is_some o → r ≡ bool_byte t → (r ≡ length ss) × (r ≤ 1)
-live (Some s) e f g = rw (e, g, f) (refl, omega arith)
-live None e f g = rw (e, g, f) (refl, omega arith)
+pub live_before : (a b : ℕ) → b ≤ origin → 0 ≡ length (clip a b [])
+live_before a b h = sym (ap length (clip-none a b (omega arith)))
+
+pub live_past : (a b : ℕ) → beyond ≤ a → 0 ≡ length (clip a b [])
+live_past a b h = sym (ap length (clip-none a b (omega arith)))
+
+pub live_empty : (a b : ℕ) → b ≤ a → 0 ≡ length (clip a b [])
+live_empty a b h = sym (ap length (clip-none a b (omega arith)))
+
+pub live_one : (a b : ℕ) → origin < b → a < beyond → a < b → 1 ≡ length (clip a b [])
+live_one a b h k l = sym (ap length (clip_one a b (omega arith)))
+
+pub ruleset lives = (rules, live_before, live_past, live_empty, live_one)
 
 pub length-clip : (a b : ℕ) (rest : List Span) → length (clip a b rest) ≡ length (clip a b []) + length rest
 unfolding clip

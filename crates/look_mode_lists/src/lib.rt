@@ -65,11 +65,15 @@ pub fn compiled_mode_flags(room: &[u32], out: &mut [u32]) -> Result<usize, Refus
     }
 }
 
-// How many modes are compiled.
+// How many modes are compiled. No jump hangs on a start: by `filter` and `count` lists of mixed modes took twice as long (docs/LOOK-BACK.md).
 fn compiled_count(starts: &[u32]) -> usize
     ensures { result ≡ count_by compiled starts.now }
 {
-    starts.iter().filter(|start| **start <= 65535).count()
+    let mut count = 0;
+    for start in starts {
+        count += usize::from(*start <= 65535);
+    }
+    count
 }
 
 fn later_of(last: u32, x: u32) -> u32
