@@ -18,7 +18,7 @@ use Rattle.run_shape.specs.declared.AsciiRun.{AsciiRun}
 use Rattle.run_shape.specs.declared.AsciiRun.TheVariants as runs
 use Rattle.run_shape.specs.declared.AsciiRunScan.{AsciiRunScan}
 use Rattle.run_shape.specs.Shape.{Got, got_said}
-use Rattle.run_shape.specs.Scan.{result_said}
+use Rattle.run_shape.specs.Scan.{said, result_said}
 
 -- The class of ranges
 
@@ -71,11 +71,45 @@ run-said (Err r) = refl
 pub run_said_one : (x y : Got) → got_said x ≡ got_said y → ranges_beside x ≡ ranges_beside y → x ≡ y
 run_said_one x y e f = let same : run_back (got_said x) (ranges_beside x) ≡ run_back (got_said y) (ranges_beside y) = rw (e, f) in sym (run-said x) ∙ same ∙ run-said y
 
+-- .. and what is said of it alone tells all but them
+
+abbrev pub but_ranges : Got → Got
+but_ranges (Ok runs.None) = Ok runs.None
+but_ranges (Ok runs.Any) = Ok runs.Any
+but_ranges (Ok (runs.Until1 a)) = Ok (runs.Until1 a)
+but_ranges (Ok (runs.Until2 a b)) = Ok (runs.Until2 a b)
+but_ranges (Ok (runs.Until3 a b c)) = Ok (runs.Until3 a b c)
+but_ranges (Ok (runs.Ranges q)) = Ok (runs.Ranges no_ranges)
+but_ranges (Err r) = Err r
+
+but-ranges-said : (x : Got) → run_back (got_said x) no_ranges ≡ but_ranges x
+but-ranges-said (Ok runs.None) = refl
+but-ranges-said (Ok runs.Any) = refl
+but-ranges-said (Ok (runs.Until1 a)) = refl
+but-ranges-said (Ok (runs.Until2 a b)) = refl
+but-ranges-said (Ok (runs.Until3 a b c)) = refl
+but-ranges-said (Ok (runs.Ranges q)) = refl
+but-ranges-said (Err r) = refl
+
+pub kind_said_one : (x y : Got) → got_said x ≡ got_said y → but_ranges x ≡ but_ranges y
+kind_said_one x y e = sym (but-ranges-said x) ∙ ap (λ (s : Said). run_back s no_ranges) e ∙ but-ranges-said y
+
 -- The scan by a state's run
 
 abbrev scan_back : List ℕ → Option AsciiRunScan
 scan_back [] = None
 scan_back (n ∷ l) = Some (record { bytes = n; found_exit = eqb (get_or l 0 0) 1 })
+
+abbrev skip_back : Said → Option AsciiRunScan
+skip_back (ok l) = scan_back l
+skip_back (no_by r) = None
+
+skip-said : (x : Option AsciiRunScan) → skip_back (said x) ≡ x
+skip-said None = refl
+skip-said (Some s) = rw (flag-back s.found_exit)
+
+pub scanned_one : (x y : Option AsciiRunScan) → said x ≡ said y → x ≡ y
+scanned_one x y e = sym (skip-said x) ∙ ap skip_back e ∙ skip-said y
 
 abbrev result_back : Said → Result (Option AsciiRunScan) Refusal
 result_back (ok l) = Ok (scan_back l)

@@ -1,6 +1,7 @@
 -- Each public call's contract determines its answer, and what it leaves in a slice that it is lent. For it is an equation for the answer, or for what
 -- the answer says, and no two answers say one thing; and one for the list in the slice. Assumes nothing.
 use mathlib.Core.Path.{◌≡◌, refl, sym, ap, ◌∙◌}
+use Rattle.run_ranges.proofs.none.Reads as none
 use Rattle.run_ranges.proofs.from_run.Reads as from-run
 use Rattle.run_ranges.proofs.packed_words.Reads as packed-words
 use Rattle.run_scan.proofs.scan_scalar.Reads as scan-scalar
@@ -61,6 +62,7 @@ use Rattle.room_fill.specs.Room.{room_for}
 use Rattle.word_reader.proofs.read_many.Reads as read-many
 use Rattle.word_reader.proofs.read_section.Reads as read-any-section
 use Rattle.buffer.proofs.clear.Reads as clear
+use Rattle.buffer.proofs.copy.Reads as copy
 use Rattle.room_fill.proofs.fill.Reads as fill
 use Rattle.room_decode.proofs.decode.Reads as decode
 use Rattle.room_judge.proofs.table_in.Reads as table-in
@@ -68,6 +70,9 @@ use Rattle.room_encode.proofs.encode.Reads as encode
 use Rattle.law_unique.specs.Unique.{Determines, DeterminesPart, DeterminesBoth}
 
 -- ascii_range
+
+pub none_unique : Determines none.Learnt
+none_unique κs a x y e f p q = p ∙ sym q
 
 -- range_words
 
@@ -302,6 +307,10 @@ read_any_section_unique R laws kept kinds κs a x y e f p q = p ∙ sym q
 pub clear_unique : (T laws copies number numbered clone cloned : _) (κs : _) (a : _) (x y : _) (e f : _) → clear.Learnt T laws copies number numbered clone cloned κs a x e →
     clear.Learnt T laws copies number numbered clone cloned κs a y f → (x ≡ y) × (e.0.now ≡ f.0.now)
 clear_unique T laws copies number numbered clone cloned κs a x y e f p q = (refl, p ∙ sym q)
+
+pub copy_unique : (T laws copies number numbered clone cloned : _) (κs : _) (a : _) (x y : _) (e f : _) → copy.Learnt T laws copies number numbered clone cloned κs a x e →
+    copy.Learnt T laws copies number numbered clone cloned κs a y f → (x ≡ y) × (e.1.0.now ≡ f.1.0.now)
+copy_unique T laws copies number numbered clone cloned κs a x y e f p q = (refl, p ∙ sym q)
 
 -- room
 

@@ -3,7 +3,7 @@
 #![tactic(auto)]
 
 ghost use Rattle.std.specs.Prelude.{◌≡◌, ◌<◌};
-ghost use Rattle.run_ranges.specs.Ranges.{ordered, is_zero, unused, checked, range_in, unpacked, ranges_of_run, follows, half_of, packed_of};
+ghost use Rattle.run_ranges.specs.Ranges.{no_ranges, ordered, is_zero, unused, checked, range_in, unpacked, ranges_of_run, follows, half_of, packed_of};
 
 use refusal::MAX_RANGES;
 
@@ -26,6 +26,16 @@ pub struct AsciiRanges {
 pub struct PackedRanges {
     pub first: u32,
     pub second: u32,
+}
+
+// No ranges: the count is 0, and so is every place.
+pub fn none() -> AsciiRanges
+    ensures { result ≡ no_ranges }
+{
+    AsciiRanges {
+        ranges: [AsciiRange { low: 0, high: 0 }; 4],
+        count: 0,
+    }
 }
 
 // Each low is at most its high, highs are at most 127, and each high + 1 is below the next low.
