@@ -14,6 +14,7 @@ use Rattle.replay_io.proofs.read.put_words.Reads as put-words
 use Rattle.replay_io.proofs.check.of.Reads as of
 use Rattle.replay_io.proofs.check.short.Reads as short
 use Rattle.replay_io.proofs.tally.count.Reads as count
+use Rattle.replay_io.proofs.tally.told.Reads as told
 use Rattle.law_unique.specs.Unique.{Determines, DeterminesPart, DeterminesBoth}
 
 pub byte_unique : Determines byte.Learnt
@@ -56,3 +57,6 @@ short_unique κs a x y e f p q = p ∙ sym q
 -- as `DeterminesBoth` has it, of a slice of counts
 pub count_unique : (κs : _) (a : _) (x y : _) (e f : _) → count.Learnt κs a x e → count.Learnt κs a y f → (x ≡ y) × (e.0.now ≡ f.0.now)
 count_unique κs a x y e f p q = (p.1.0 ∙ sym q.1.0, p.1.1 ∙ sym q.1.1)
+
+pub told_unique : Determines told.Learnt
+told_unique κs a x y e f p q = p ∙ sym q

@@ -1,6 +1,6 @@
 // Counts the answers of each kind that are equal and those that differ. The kinds are numbers from 1 on, and the counts of kind k stand at place k.
-ghost use Rattle.std.specs.Prelude.{◌≡◌, IfSome, ◌<◌, ◌≤◌, length};
-ghost use Rattle.replay_io.specs.Tally.{counted, added, taken, one_more};
+ghost use Rattle.std.specs.Prelude.{◌≡◌, Some, IfSome, ◌<◌, ◌≤◌, length};
+ghost use Rattle.replay_io.specs.Tally.{counted, added, taken, told, one_more, counts_text, report_text};
 
 use crate::read;
 use std::fmt;
@@ -25,6 +25,8 @@ pub const NONE: Counts = Counts {
 };
 
 impl fmt::Display for Counts {
+    ghost output = { λ c. Some (counts_text c) };
+
     fn fmt<W: fmt::Write>(&self, f: &mut fmt::Formatter<W>) -> fmt::Result {
         let Counts { equal, differ } = *self;
         write!(f, "{equal} equal, {differ} differ")
@@ -41,6 +43,8 @@ pub struct Report<'a> {
 }
 
 impl fmt::Display for Report<'_> {
+    ghost output = { λ r. Some (report_text r) };
+
     fn fmt<W: fmt::Write>(&self, f: &mut fmt::Formatter<W>) -> fmt::Result {
         let Report { at, bytes, .. } = *self;
         writeln!(f, "{at} of {bytes} bytes")?;
@@ -90,4 +94,12 @@ pub fn count(counts: &mut [Counts], rest: &[u8], replayed: Replayed) -> Option<u
     }
     add(counts, read::small(rest, 0), same);
     Some(1 + more)
+}
+
+// How many answers of a kind are equal, or differ: none of a kind that has no place.
+pub fn told(counts: &[Counts], kind: u8, same: bool) -> usize
+    ensures { result ≡ told counts.now kind same }
+{
+    let Counts { equal, differ } = counts.get(usize::from(kind)).copied().unwrap_or(NONE);
+    if same { equal } else { differ }
 }

@@ -3,7 +3,10 @@ use refusal::{MAX_WORDS, Refusal};
 use replay_io::tally::Replayed;
 use replay_io::{check, read};
 
-// How many numbers were written. No record is of a refusal.
+// A refusal is a length that no output has.
+const REFUSED: usize = 65535;
+
+// How many numbers were written.
 fn write(room: &[u32], kind: u8, out: &mut [u32]) -> Result<usize, Refusal> {
     match kind {
         11 => look_mode_lists::compiled_mode_flags(room, out),
@@ -18,7 +21,7 @@ pub(crate) fn replay_list(room: &[u32], kind: u8, record: &[u8]) -> Replayed {
     let length = write(room, kind, &mut out);
     Replayed {
         more: 6,
-        same: (length.ok() == Some(read::size(record, 1)))
+        same: (length.unwrap_or(REFUSED) == read::size(record, 1))
             & (check::short(&out) == read::word(record, 3)),
     }
 }

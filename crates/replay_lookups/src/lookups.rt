@@ -8,12 +8,15 @@ use run_shape::AsciiRunScan;
 // The number of a record for no start, accept or continuation.
 const NONE: u32 = 4294967295;
 
+// A refusal is a number that no record of the sample has, so it differs from each.
+const REFUSED: u32 = 4294967294;
+
 fn start(answer: Result<Option<u16>, Missing>) -> Option<u32> {
     Some(answer.ok()?.map_or(NONE, u32::from))
 }
 
-// What kinds 1 to 9 answer: NONE is the answer's own number for no accept and for no continuation. No record is of a refusal. (The kinds stay numbers, here and in the other programs: they are those of the table in main.rt, and an enum would name each
-// of them once more.)
+// What kinds 1 to 9 answer: NONE is the answer's own number for no accept and for no continuation. (The kinds stay numbers, here and in the other programs:
+// they are those of the table in main.rt, and an enum would name each of them once more.)
 fn looked_up(room: &[u32], kind: u8, state: u16, symbol: u32, ascii: u8) -> Option<u32> {
     match kind {
         1 => start(look_modes::mode_start(room, symbol)),
@@ -39,7 +42,7 @@ pub(crate) fn replay_number(room: &[u32], kind: u8, record: &[u8]) -> Replayed {
     );
     Replayed {
         more: 10,
-        same: ours == Some(read::word(record, 7)),
+        same: ours.unwrap_or(REFUSED) == read::word(record, 7),
     }
 }
 
