@@ -110,7 +110,8 @@ pub struct WideRange {
 pub fn wide_target(row: &[WideRange], symbol: u32) -> u16
     ensures { result ≡ target_in row.now symbol }
 {
-    for range in row {
+    for i in 0..row.len() {
+        let range = row[i];
         if symbol <= range.high {
             if range.low <= symbol {
                 return range.target;

@@ -61,7 +61,7 @@ fn first_outside(a: AsciiRange, b: AsciiRange, c: AsciiRange, d: AsciiRange, blo
     usize::from(first)
 }
 
-// The same as `scan_bytes`, block by block. The last block ends with the input, so it can begin inside the one before it.
+// The same as `before_first`, block by block. The last block ends with the input, so it can begin inside the one before it.
 fn scan_blocks(a: AsciiRange, b: AsciiRange, c: AsciiRange, d: AsciiRange, input: &[u8]) -> usize
     requires { 16 ≤ length input.now }
     ensures { result ≡ before (outside (a ∷ b ∷ c ∷ d ∷ [])) input.now }
