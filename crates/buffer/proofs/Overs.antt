@@ -9,7 +9,6 @@ use borrow.Author.Rules.{rules}
 use borrow.Rule.Slice.PartMut.{mid_of, post_of, put_mid, same_len_mid}
 use lib.ListN.{length, get_or, take, drop, set, replicate, length-append, length-take, length-drop, length-set, length-replicate, replicate-append-replicate}
 use lib.Seq.{drop-length, drop-drop, length-take-le}
-use lib.Bits.{bit_or, or_add_and, and_le_l, and_le_r}
 use Rattle.buffer.specs.Over.{over, lay, zeros, padded}
 
 pub over-length : (xs d : List ℕ) → length (over xs d) ≡ length d
@@ -160,7 +159,3 @@ module _ {X : Type 0} (z : X) where
 
   pub part_length : (n k : ℕ) (l : List X) {e : List X} → e ≡ replicate (length (mid_of n k l)) z → length (put_mid n k l e) ≡ length l
   part_length n k l {e} f = same_len_mid n k l e (ap length f ∙ length-replicate (length (mid_of n k l)) z)
-
--- where the bits of both are 0, both are
-pub or_zero : (a b : ℕ) → bit_or a b ≡ 0 → (a ≡ 0) × (b ≡ 0)
-or_zero a b h = (omega (arith, or_add_and a b, and_le_r a b, h), omega (arith, or_add_and a b, and_le_l a b, h))

@@ -1,13 +1,16 @@
 // Lent buffers made zero, whatever numbers they have: targets of 16 bits, numbers of 32, and the words of masks, of 64. In specs/ what it is to write a
 // list over a part of another, and what a call says that writes into a buffer; in proofs/ the law of every loop that does.
-#![tactic(auto, using(crate::proofs::Overs::or_zero))]
+#![tactic(auto)]
 
-ghost use Rattle.std.specs.Prelude.{◌≡◌, IsTrue, length, replicate};
+ghost use Rattle.std.specs.Prelude.{◌≡◌, IsTrue, length, replicate, bit_or};
 ghost use Rattle.buffer.specs.Over.{over};
+ghost use Rattle.buffer.specs.Joins.{or_zero};
 
 // A number that a buffer has.
 pub trait Number: Copy {
     ghost zero: { Self };
+
+    ghost join: { Self → Self → Self };
 
     fn zero() -> Self
         ensures { result ≡ zero };
@@ -15,13 +18,20 @@ pub trait Number: Copy {
     fn is_zero(self) -> bool
         ensures { (IsTrue result → self ≡ zero) × (self ≡ zero → IsTrue result) };
 
-    // The bits of both, so zero only where both are.
+    // The bits of both.
     fn joined(self, other: Self) -> Self
-        ensures { result ≡ zero → (self ≡ zero) × (other ≡ zero) };
+        ensures { result ≡ join self other };
+
+    // Where no bit of both is set, none of either is.
+    ghost join_zero: { (a b : Self) → join a b ≡ zero → (a ≡ zero) × (b ≡ zero) };
 }
 
 impl Number for u16 {
     ghost zero = { 0 };
+
+    ghost join = { bit_or };
+
+    ghost join_zero = { or_zero };
 
     fn zero() -> u16 {
         0
@@ -39,6 +49,10 @@ impl Number for u16 {
 impl Number for u32 {
     ghost zero = { 0 };
 
+    ghost join = { bit_or };
+
+    ghost join_zero = { or_zero };
+
     fn zero() -> u32 {
         0
     }
@@ -54,6 +68,10 @@ impl Number for u32 {
 
 impl Number for u64 {
     ghost zero = { 0 };
+
+    ghost join = { bit_or };
+
+    ghost join_zero = { or_zero };
 
     fn zero() -> u64 {
         0
