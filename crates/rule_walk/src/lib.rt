@@ -4,10 +4,10 @@
 #![tactic(auto)]
 
 ghost use Rattle.std.specs.Prelude.{◌≡◌};
+ghost use Rattle.std.specs.Result.{result_ok};
 ghost use Rattle.rule_words.specs.Rules.{passing, item1, item2, item4, item5, item6, item8, item9};
 ghost use Rattle.rule_walk.specs.Questions.{asked_at, passes, passing_of, all_pass};
 
-use refusal::Refusal;
 use rule_words::word_at;
 
 // What is asked of a record, with the numbers that it is judged by: how many states, rows, accepts or continuations there are. A run is judged by
@@ -35,21 +35,23 @@ pub enum Question {
     ContinuationIsPlain,
 }
 
-// Where the record that is asked ends. Each question knows its kind of record: so the loop below chooses a reader as it chooses a test, and keeps
-// the place in a register.
-fn read_asked(question: Question, words: &[u32], at: usize) -> Result<usize, Refusal>
-    ensures { result ≡ asked_at question words.now at }
+// Where the record that is asked ends, if its reader takes it: why not, no rule asks. Each question knows its kind of record: so the loop below
+// chooses a reader as it chooses a test, and keeps the place in a register. For that a reader's answer is made an Option where it is given: one that
+// may hold a refusal went through memory in two halves at each record, a third of the time of decoding a table of empty wide rows (docs/LOOK-BACK.md,
+// d 9).
+fn read_asked(question: Question, words: &[u32], at: usize) -> Option<usize>
+    ensures { result ≡ result_ok (asked_at question words.now at) }
 {
     match question {
-        Question::StartIsState(_) => word_records::read_mode(words, at),
-        Question::StateIsValid { .. } => word_records::read_state(words, at),
-        Question::RunIsClassified { .. } => word_records::read_run(words, at),
-        Question::AsciiRowIsGood(_) => word_records::read_ascii_row(words, at),
-        Question::WideRowIsSearchable(_) => word_records::read_wide_row(words, at),
-        Question::EscapeRowIsValid(_) => word_records::read_escape_row(words, at),
-        Question::ContinuationIsValid => word_records::read_continuation(words, at),
-        Question::AcceptIsPlain => word_records::read_accept(words, at),
-        Question::ContinuationIsPlain => word_records::read_continuation(words, at),
+        Question::StartIsState(_) => word_records::read_mode(words, at).ok(),
+        Question::StateIsValid { .. } => word_records::read_state(words, at).ok(),
+        Question::RunIsClassified { .. } => word_records::read_run(words, at).ok(),
+        Question::AsciiRowIsGood(_) => word_records::read_ascii_row(words, at).ok(),
+        Question::WideRowIsSearchable(_) => word_records::read_wide_row(words, at).ok(),
+        Question::EscapeRowIsValid(_) => word_records::read_escape_row(words, at).ok(),
+        Question::ContinuationIsValid => word_records::read_continuation(words, at).ok(),
+        Question::AcceptIsPlain => word_records::read_accept(words, at).ok(),
+        Question::ContinuationIsPlain => word_records::read_continuation(words, at).ok(),
     }
 }
 
@@ -87,7 +89,7 @@ fn count_passing(question: Question, words: &[u32], count: u32, at: usize) -> u3
 {
     let mut here = at;
     for number in 0..count {
-        let Ok(next) = read_asked(question, words, here) else {
+        let Some(next) = read_asked(question, words, here) else {
             return number;
         };
         if !passes(question, words, number, here) {
