@@ -65,7 +65,8 @@ pub fn compiled_mode_flags(room: &[u32], out: &mut [u32]) -> Result<usize, Refus
     }
 }
 
-// How many modes are compiled. No jump hangs on a start: by `filter` and `count` lists of mixed modes took twice as long (docs/LOOK-BACK.md).
+// How many modes are compiled. No jump hangs on a start, here and in `look_modes`, where more of the time goes: lists of mixed modes took twice as
+// long by `filter`, `count` and `all` (docs/LOOK-BACK.md, d 6).
 fn compiled_count(starts: &[u32]) -> usize
     ensures { result ≡ count_by compiled starts.now }
 {

@@ -80,8 +80,8 @@ fn up_to(limit: u32, x: u32) -> bool
     (x <= limit) | (x == NONE)
 }
 
-// No start is past the limit. Each is asked, with no way out: by `all`, which jumps at each, lists of mixed modes took twice as long
-// (docs/LOOK-BACK.md).
+// No start is past the limit. Each is asked, with no way out: `all` jumps at each, which was most of why lists of mixed modes took twice as long
+// (docs/LOOK-BACK.md, d 6).
 fn all_up_to(starts: &[u32], limit: u32) -> bool
     ensures { result ≡ list_all (up_to limit) starts.now }
 {
